@@ -1,6 +1,6 @@
 -- How many of the boards below n pass a test: the laws of a tally, for any test.
 -- Nothing here knows of bits or bytes; Sets has the same laws in the words of a set.
-use mathlib.Core.Path.{_≡_, refl, sym, ap, subst, _∙_}
+use mathlib.Core.Path.{_≡_, refl, sym, ap, _∙_}
 use mathlib.Core.Bool.{Bool, true, false}
 use mathlib.Core.Logic.{⊎-elim}
 use Prim.Native.Nat.{ℕ, zero, suc, _+_, _<_, _≤_}

@@ -2,12 +2,12 @@
 -- One law, `overlap`; the two theorems are cases of it.
 use mathlib.Core.Path.{_≡_, refl, sym, ap}
 use mathlib.Core.Bool.{Bool, true, false, not, _&&_}
-use Prim.Native.Nat.{ℕ, zero, suc, _+_, _*_, _<_, _≤_}
+use Prim.Native.Nat.{ℕ, zero, suc, _+_, _<_, _≤_}
 use native.Mathlib.Omega.{arith}
 use lib.Bits.{bitAnd}
 use Rattle.std.proofs.shelf.Tests.{and-parts, not-true, true≢false}
 use Rattle.boards.specs.Boards.{member, one, tally, size, Within, Meet, Quorums-meet, One-is-correct}
-use Rattle.boards.proofs.Bits.{member-and}
+use Rattle.boards.proofs.Members.{member-and}
 use Rattle.boards.proofs.Counts.{tally-some}
 
 -- One board: it is in both sets no oftener than in v, in f and v, and in both outside f.

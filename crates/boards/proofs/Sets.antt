@@ -3,19 +3,18 @@
 use mathlib.Core.Path.{_≡_, refl, sym, ap, _∙_}
 use mathlib.Core.Bool.{Bool, true, false, not, _&&_, _||_}
 use mathlib.Core.Logic.{⊎-elim}
-use Prim.Native.Nat.{ℕ, _+_, _-_, _/_, _^_, _<_, _≤_}
+use Prim.Native.Nat.{ℕ, _+_, _<_, _≤_}
 use native.Mathlib.Numerals.{add-one}
 use native.Mathlib.Omega.{arith}
 use lib.Bits.{bitAnd}
-use lib.Count.{ones}
 use lib.Dec.{eqb}
 use Rattle.std.proofs.shelf.Bits.{and-le-l}
-use Rattle.std.proofs.shelf.Tests.{cases-bool, cases-eq, cases-order, both-ways, and-parts, eqb-true, eq-eqb, ne-eqb}
+use Rattle.std.proofs.shelf.Tests.{cases-bool, cases-order, both-ways, and-parts, eqb-true, eq-eqb, ne-eqb}
 use Rattle.std.specs.Orderings.{Decides}
 use Rattle.std.specs.declared.option.Option.{Option}
 use Rattle.std.specs.declared.option.Option.the-variants.{Some, None}
 use Rattle.boards.specs.Boards.{member, only, one, tally, size, place, Within, With, Without, Holder}
-use Rattle.boards.proofs.Bits.{member-and, member-below, member-none, member-only, place-ones, same-set}
+use Rattle.boards.proofs.Members.{member-and, member-below, member-none, member-only, same-set}
 use Rattle.boards.proofs.Counts.{tally-le, tally-rises, tally-some, tally-within, tally-same, tally-but}
 
 pub size-le : (s : ℕ) → size s ≤ 8
@@ -47,13 +46,6 @@ pub place-next : (s b : ℕ) → place s (b + 1) ≡ place s b + one (member s b
 unfolding place tally
 place-next s b = ap (tally (member s)) (add-one b)
 
--- The bits from that of a member up are its rank.
-pub rank-ones : (s b : ℕ) → s < 256 → member s b ≡ true → ones (s / 2 ^ (7 - b)) ≡ place s b + 1
-rank-ones s b h e =
-    let below = member-below s b e in
-    let here : 7 - b ≡ 8 - (b + 1) = omega arith in
-    ap (λ i. ones (s / 2 ^ i)) here ∙ place-ones s (b + 1) h (omega arith) ∙ omega (arith, place-next s b, ap one e)
-
 -- A member has fewer members before it than there are.
 pub place-below : (s b : ℕ) → member s b ≡ true → place s b < size s
 unfolding size place
@@ -78,7 +70,7 @@ pub size-none : size 0 ≡ 0
 size-none =
     ⊎-elim (λ z. z) (λ o. absurd (⊎-elim (λ l. omega arith) (λ l. let r = place-some 0 0 l in both-ways (member 0 (r .0)) (member-none (r .0)) (r .2)) o)) (cases-order (size 0) 0)
 
--- A set has a board exactly if its size is not 0.
+-- A set whose size is not 0 has a board.
 pub some-member : (s : ℕ) → 0 < size s → (b : ℕ) × (b < 8) × (member s b ≡ true)
 some-member s h = let r = place-some s 0 h in (r .0, r .1, r .2)
 
@@ -88,28 +80,28 @@ no-member s b z = ⊎-elim (λ e. absurd (omega (arith, place-below s b e))) (λ
 pub size-zero : (s : ℕ) → s < 256 → size s ≡ 0 → s ≡ 0
 size-zero s h z = same-set s 0 h (omega arith) (λ k l. no-member s k z ∙ sym (member-none k))
 
-with-old : (s b r : ℕ) → With s b r → (k : ℕ) → k < 8 → (k ≡ b → ⊥) → member s k ≡ member r k
+pub with-old : (s b r : ℕ) → With s b r → (k : ℕ) → k < 8 → (k ≡ b → ⊥) → member s k ≡ member r k
 with-old s b r w k h ne = sym (w k h ∙ ap (λ t. member s k || t) (ne-eqb k b ne) ∙ or-false (member s k))
   where
     or-false : (t : Bool) → (t || false) ≡ t
     or-false true = refl
     or-false false = refl
 
-with-new : (s b r : ℕ) → b < 8 → With s b r → member r b ≡ true
+pub with-new : (s b r : ℕ) → b < 8 → With s b r → member r b ≡ true
 with-new s b r h w = w b h ∙ ap (λ t. member s b || t) (eq-eqb b b refl) ∙ or-true (member s b)
   where
     or-true : (t : Bool) → (t || true) ≡ true
     or-true true = refl
     or-true false = refl
 
-without-old : (s b r : ℕ) → Without s b r → (k : ℕ) → k < 8 → (k ≡ b → ⊥) → member s k ≡ member r k
+pub without-old : (s b r : ℕ) → Without s b r → (k : ℕ) → k < 8 → (k ≡ b → ⊥) → member s k ≡ member r k
 without-old s b r w k h ne = sym (w k h ∙ ap (λ t. member s k && not t) (ne-eqb k b ne) ∙ and-true (member s k))
   where
     and-true : (t : Bool) → (t && true) ≡ t
     and-true true = refl
     and-true false = refl
 
-without-gone : (s b r : ℕ) → b < 8 → Without s b r → member r b ≡ false
+pub without-gone : (s b r : ℕ) → b < 8 → Without s b r → member r b ≡ false
 without-gone s b r h w = w b h ∙ ap (λ t. member s b && not t) (eq-eqb b b refl) ∙ and-false (member s b)
   where
     and-false : (t : Bool) → (t && false) ≡ false
@@ -133,11 +125,11 @@ size-with-old s b r w e = omega (arith, size-with s b r (member-below s b e) w, 
 pub size-without : (s b r : ℕ) → b < 8 → Without s b r → size r + one (member s b) ≡ size s
 size-without s b r h w = omega (arith, size-but s b r h (without-old s b r w), ap one (without-gone s b r h w))
 
-pub size-without-old : (s b r : ℕ) → Without s b r → member s b ≡ true → size r + 1 ≡ size s
-size-without-old s b r w e = omega (arith, size-without s b r (member-below s b e) w, ap one e)
+pub size-without-member : (s b r : ℕ) → Without s b r → member s b ≡ true → size r + 1 ≡ size s
+size-without-member s b r w e = omega (arith, size-without s b r (member-below s b e) w, ap one e)
 
-pub size-without-new : (s b r : ℕ) → b < 8 → Without s b r → member s b ≡ false → size r ≡ size s
-size-without-new s b r h w e = omega (arith, size-without s b r h w, ap one e)
+pub size-without-other : (s b r : ℕ) → b < 8 → Without s b r → member s b ≡ false → size r ≡ size s
+size-without-other s b r h w e = omega (arith, size-without s b r h w, ap one e)
 
 pub size-only : (b : ℕ) → b < 8 → size (only b) ≡ 1
 size-only b h = omega (arith, size-with-new 0 b (only b) h (λ k l. member-only b k l ∙ sym (ap (λ t. t || eqb k b) (member-none k))) (member-none b), size-none)
@@ -153,11 +145,7 @@ and-within false b h = refl
 
 -- A set is within another exactly if the boards of both are its own.
 pub within-and : (a v : ℕ) → a < 256 → Decides (eqb (bitAnd a v) a) (Within a v)
-within-and a v h =
-    ( (λ e k l m. and-parts (member a k) (member v k) (sym (member-and a v k) ∙ ap (λ s. member s k) (eqb-true (bitAnd a v) a e) ∙ m) .1)
-    , (λ w. eq-eqb (bitAnd a v) a (same-set _ a (omega (arith, and-le-l a v)) h (λ k l. member-and a v k ∙ and-within (member a k) (member v k) (w k l)))) )
-
--- A set is empty exactly if its byte is 0.
-pub empty-byte : (s : ℕ) → s < 256 → eqb s 0 ≡ eqb (size s) 0
-empty-byte s h =
-    ⊎-elim (λ z. eq-eqb s 0 z ∙ sym (eq-eqb (size s) 0 (ap size z ∙ size-none))) (λ n. ne-eqb s 0 n ∙ sym (ne-eqb (size s) 0 (λ z. n (size-zero s h z)))) (cases-eq s 0)
+within-and a v h = (
+  (λ e k l m. and-parts (member a k) (member v k) (sym (member-and a v k) ∙ ap (λ s. member s k) (eqb-true (bitAnd a v) a e) ∙ m) .1),
+  (λ w. eq-eqb (bitAnd a v) a (same-set _ a (omega (arith, and-le-l a v)) h (λ k l. member-and a v k ∙ and-within (member a k) (member v k) (w k l)))),
+)

@@ -19,12 +19,12 @@ pub loop-board-again : need.loop-board-again
 loop-board-again c =
     let next = place-next (c .args .self .bits) (c .loop-board .board) in
     elim (c .if-has .came) [
-      then-has·else-seen-rank w ↦
-        let counts = ap one (sym (c .has .ensures) ∙ w .if-has .taken) in
-        (omega (arith, w .seen-is), ⊎-elim (λ z. inl z) (λ l. inr (omega (arith, w .seen-is, w .if-seen-rank .left))) (c .loop-board .inv .1))
-    | else-has w ↦
-        let counts = ap one (sym (c .has .ensures) ∙ w .if-has .left) in
-        (omega (arith, w .seen-is), ⊎-elim (λ z. inl z) (λ l. inr (omega (arith, w .seen-is))) (c .loop-board .inv .1))
+      | then-has·else-seen-rank w ↦
+          let counts = ap one (sym (c .has .ensures .is) ∙ w .if-has .taken) in
+          (omega (arith, w .seen-is), ⊎-elim (λ z. inl z) (λ l. inr (omega (arith, w .seen-is, w .if-seen-rank .left))) (c .loop-board .inv .1))
+      | else-has w ↦
+          let counts = ap one (sym (c .has .ensures .is) ∙ w .if-has .left) in
+          (omega (arith, w .seen-is), ⊎-elim (λ z. inl z) (λ l. inr (omega (arith, w .seen-is))) (c .loop-board .inv .1))
     ]
 
 pub returns : need.returns

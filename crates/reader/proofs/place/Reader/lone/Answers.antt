@@ -4,7 +4,7 @@ use borrow.Author.Needs.{needs}
 use Rattle.std.specs.declared.result.Result.the-variants.{Ok, Err}
 use Rattle.std.proofs.shelf.Results.{err-from-errBy}
 use Rattle.std.proofs.shelf.Tests.{eq-eqb, ne-eqb}
-use Rattle.boards.proofs.Bits.{size-ones}
+use Rattle.boards.proofs.Members.{size-ones}
 use Rattle.wire.specs.Fields.{lone}
 use Rattle.reader.specs.Places.{Read}
 use Rattle.reader.proofs.Bridge.{got-on, got-bad, none-left}

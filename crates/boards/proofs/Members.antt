@@ -1,19 +1,19 @@
 -- What the bits of a byte say of the members of a set.
--- This file alone opens `member` and `only`; all others go by these laws.
+-- Of the laws only these open `member` and `only`; all others go by them.
 use mathlib.Core.Path.{_≡_, refl, sym, ap, subst, _∙_}
 use mathlib.Core.Bool.{Bool, true, false, not, _&&_, _||_}
 use mathlib.Core.Logic.{⊎-elim}
 use Prim.Native.Nat.{ℕ, zero, suc, _+_, _-_, _*_, _/_, _%_, _^_, _<_, _≤_}
-use native.Mathlib.Nat.{div-le-self}
-use native.Mathlib.Numerals.{add-one}
+use native.Mathlib.Nat.{pow-suc}
+use native.Mathlib.Numerals.{one-add}
 use native.Mathlib.Omega.{arith}
-use lib.Bits.{bitAnd, bitOr, or-zero-r, and-mask}
+use lib.Bits.{bitAnd, bitOr}
 use lib.Pow.{pow-mono}
 use lib.Count.{ones, ones-step}
 use lib.Dec.{eqb, ltb}
-use Rattle.std.proofs.shelf.Bits.{and-le-l, and-shr, or-shr, and-mod, or-mod, shr-shr, shr-below, mod-below, div-below, pow-pos}
-use Rattle.std.proofs.shelf.Tests.{and-from, and-left, and-parts, and-right, both-ways, cases-bool, cases-eq, cases-lt, eq-eqb, le-ltb, lt-ltb, ltb-true, ne-eqb, true≢false}
-use Rattle.boards.specs.Boards.{member, only, one, tally, size, place, With, Without}
+use Rattle.std.proofs.shelf.Bits.{and-shr, or-shr, and-mod, or-mod, shr-shr, mod-below, div-below, pow-pos}
+use Rattle.std.proofs.shelf.Tests.{and-left, and-parts, cases-eq, cases-lt, le-ltb, lt-ltb, ltb-true, ne-eqb, true≢false}
+use Rattle.boards.specs.Boards.{member, only, one, tally, size, place}
 
 -- A test passes at each number below n, computed.
 abbrev pub every : (ℕ → Bool) → ℕ → Bool
@@ -57,7 +57,7 @@ unfolding member
 member-below s b e = ltb-true b 8 (and-parts (ltb b 8) _ e .0)
 
 -- Below 8 a member is a bit.
-member-bit : (s b : ℕ) → b < 8 → member s b ≡ eqb (s / 2 ^ (7 - b) % 2) 1
+pub member-bit : (s b : ℕ) → b < 8 → member s b ≡ eqb (s / 2 ^ (7 - b) % 2) 1
 unfolding member
 member-bit s b h = ap (λ t. t && eqb (s / 2 ^ (7 - b) % 2) 1) (lt-ltb b 8 h)
 
@@ -97,10 +97,6 @@ only-above b h =
     let small : 128 / 2 ^ b < 1 = div-below 128 (2 ^ b) 1 (pow-pos b) (omega arith) in
     omega arith
 
-pub only-byte : (b : ℕ) → only b < 256
-unfolding only
-only-byte b = omega (arith, div-le-self 128 (2 ^ b))
-
 -- Two tests of two boards agree if they agree at the 64 pairs.
 table : (f g : ℕ → ℕ → Bool) → every (λ i. every (λ j. same (f i j) (g i j)) 8) 8 ≡ true → (b k : ℕ) → b < 8 → k < 8 → f b k ≡ g b k
 table f g e b k hb hk = from-same _ _ (at-every (λ j. same (f b j) (g b j)) 8 (at-every (λ i. every (λ j. same (f i j) (g i j)) 8) 8 e b hb) k hk)
@@ -109,44 +105,56 @@ only-table : (b k : ℕ) → b < 8 → k < 8 → member (only b) k ≡ eqb k b
 unfolding member only
 only-table = table (λ b k. member (only b) k) (λ b k. eqb k b) refl
 
-rest-table : (b k : ℕ) → b < 8 → k < 8 → member (255 - only b) k ≡ not (eqb k b)
-unfolding member only
-rest-table = table (λ b k. member (255 - only b) k) (λ b k. not (eqb k b)) refl
-
 pub member-all : (k : ℕ) → k < 8 → member 255 k ≡ true
 unfolding member
 member-all = at-every (member 255) 8 refl
 
--- A board below 8 is none above 7.
-other : (b k : ℕ) → 8 ≤ b → k < 8 → eqb k b ≡ false
-other b k hb hk = ne-eqb k b (λ e. omega arith)
+-- No board is one above 7.
+pub none-above : (b : ℕ) → 8 ≤ b → (k : ℕ) → k < 8 → member 0 k ≡ eqb k b
+none-above b hb k hk = member-none k ∙ sym (ne-eqb k b (λ e. omega arith))
 
 pub member-only : (b k : ℕ) → k < 8 → member (only b) k ≡ eqb k b
 member-only b k hk =
-    ⊎-elim (λ hb. only-table b k hb hk) (λ hb. ap (λ s. member s k) (only-above b hb) ∙ member-none k ∙ sym (other b k hb hk)) (cases-lt b 8)
+    ⊎-elim (λ hb. only-table b k hb hk) (λ hb. ap (λ s. member s k) (only-above b hb) ∙ none-above b hb k hk) (cases-lt b 8)
 
--- All boards but one.
-pub member-rest : (b k : ℕ) → k < 8 → member (255 - only b) k ≡ not (eqb k b)
-member-rest b k hk =
-    ⊎-elim (λ hb. rest-table b k hb hk) (λ hb. ap (λ s. member (255 - s) k) (only-above b hb) ∙ member-all k hk ∙ sym (ap not (other b k hb hk))) (cases-lt b 8)
+-- Halving a number and shifting it go together.
+halves : (x j : ℕ) → x / 2 ^ suc j ≡ x / 2 / 2 ^ j
+halves x j = ap (λ i. x / 2 ^ i) (sym (one-add j)) ∙ sym (shr-shr x 1 j)
 
+-- A bit of the largest number of n bits, less b, is the other one of b.
+flip : (n b j : ℕ) → b < 2 ^ n → j < n → (2 ^ n - 1 - b) / 2 ^ j % 2 ≡ 1 - b / 2 ^ j % 2
+flip zero b j hb hj = absurd (omega arith)
+flip (suc n) b zero hb hj = let two : 2 ^ suc n ≡ 2 ^ n * 2 = pow-suc 2 n in omega arith
+flip (suc n) b (suc j) hb hj =
+    let two : 2 ^ suc n ≡ 2 ^ n * 2 = pow-suc 2 n in
+    let half : (2 ^ suc n - 1 - b) / 2 ≡ 2 ^ n - 1 - b / 2 = omega arith in
+    ap (λ x. x % 2) (halves (2 ^ suc n - 1 - b) j) ∙ ap (λ x. x / 2 ^ j % 2) half ∙ flip n (b / 2) j (omega arith) (omega arith)
+    ∙ ap (λ x. 1 - x % 2) (sym (halves b j))
+
+-- The boards that a set does not have.
+pub member-rest : (b k : ℕ) → b < 256 → k < 8 → member (255 - b) k ≡ not (member b k)
+member-rest b k hb hk =
+    member-bit (255 - b) k hk ∙ ap (λ x. eqb x 1) (flip 8 b (7 - k) hb (omega arith)) ∙ bit (λ x. eqb (1 - x) 1 ≡ not (eqb x 1)) refl refl _ (low b (7 - k))
+    ∙ ap not (sym (member-bit b k hk))
+
+-- Two numbers of n bits with the same bits are the same.
 eq-bits : (n s t : ℕ) → s < 2 ^ n → t < 2 ^ n → ((j : ℕ) → j < n → s / 2 ^ j % 2 ≡ t / 2 ^ j % 2) → s ≡ t
 eq-bits zero s t hs ht e = omega arith
 eq-bits (suc n) s t hs ht e =
-    let up : (x : ℕ) → x < 2 ^ suc n → x / 2 < 2 ^ n = λ x h. shr-below x n 1 (subst (λ m. x < 2 ^ m) (sym (add-one n)) h) in
-    let r : s / 2 ≡ t / 2 = eq-bits n (s / 2) (t / 2) (up s hs) (up t ht) (λ j h. ap (λ x. x % 2) (shr-shr s 1 j) ∙ e (1 + j) (omega arith) ∙ sym (ap (λ x. x % 2) (shr-shr t 1 j))) in
-    let low : s / 1 % 2 ≡ t / 1 % 2 = e 0 (omega arith) in
-    omega (arith, r, low)
+    let two : 2 ^ suc n ≡ 2 ^ n * 2 = pow-suc 2 n in
+    let r : s / 2 ≡ t / 2 = eq-bits n (s / 2) (t / 2) (omega arith) (omega arith) (λ j h. ap (λ x. x % 2) (sym (halves s j)) ∙ e (suc j) (omega arith) ∙ ap (λ x. x % 2) (halves t j)) in
+    let last : s / 1 % 2 ≡ t / 1 % 2 = e 0 (omega arith) in
+    omega (arith, r, last)
 
 -- Two bytes with the same members are the same.
 pub same-set : (s t : ℕ) → s < 256 → t < 256 → ((k : ℕ) → k < 8 → member s k ≡ member t k) → s ≡ t
 same-set s t hs ht m =
     eq-bits 8 s t hs ht (λ j h.
-      let back : 7 - (7 - j) ≡ j = omega arith in
-      let small : 7 - j < 8 = omega arith in
-      let e : eqb (s / 2 ^ (7 - (7 - j)) % 2) 1 ≡ eqb (t / 2 ^ (7 - (7 - j)) % 2) 1 = sym (member-bit s (7 - j) small) ∙ m (7 - j) small ∙ member-bit t (7 - j) small in
-      bits (λ x y. eqb x 1 ≡ eqb y 1 → x ≡ y) (λ e. refl) (λ e. absurd (true≢false (sym e))) (λ e. absurd (true≢false e)) (λ e. refl) _ _ (low s j) (low t j)
-      (subst (λ i. eqb (s / 2 ^ i % 2) 1 ≡ eqb (t / 2 ^ i % 2) 1) back e))
+    let back : 7 - (7 - j) ≡ j = omega arith in
+    let small : 7 - j < 8 = omega arith in
+    let e : eqb (s / 2 ^ (7 - (7 - j)) % 2) 1 ≡ eqb (t / 2 ^ (7 - (7 - j)) % 2) 1 = sym (member-bit s (7 - j) small) ∙ m (7 - j) small ∙ member-bit t (7 - j) small in
+    bits (λ x y. eqb x 1 ≡ eqb y 1 → x ≡ y) (λ e. refl) (λ e. absurd (true≢false (sym e))) (λ e. absurd (true≢false e)) (λ e. refl) _ _ (low s j) (low t j)
+    (subst (λ i. eqb (s / 2 ^ i % 2) 1 ≡ eqb (t / 2 ^ i % 2) 1) back e))
 
 none : ones 0 ≡ 0
 unfolding ones
@@ -168,34 +176,6 @@ pub size-ones : (s : ℕ) → s < 256 → ones s ≡ size s
 unfolding size place tally
 size-ones s h = let whole : s ≡ s / 1 = omega arith in ap ones whole ∙ place-ones s 8 h (omega arith)
 
--- A set and one board share a board exactly if that board is a member.
-pub and-only : (s b : ℕ) → s < 256 → not (eqb (bitAnd s (only b)) 0) ≡ member s b
-and-only s b h = ⊎-elim here gone (cases-bool (member s b))
-  where
-    both : (k : ℕ) → k < 8 → member (bitAnd s (only b)) k ≡ (member s k && eqb k b)
-    both k l = member-and s (only b) k ∙ ap (λ t. member s k && t) (member-only b k l)
-    here : member s b ≡ true → not (eqb (bitAnd s (only b)) 0) ≡ member s b
-    here e =
-        let shared : member (bitAnd s (only b)) b ≡ true = both b (member-below s b e) ∙ and-from _ _ e (eq-eqb b b refl) in
-        let some = ne-eqb (bitAnd s (only b)) 0 (λ z. both-ways _ (ap (λ x. member x b) z ∙ member-none b) shared) in
-        ap not some ∙ sym e
-    apart : member s b ≡ false → (k : ℕ) → (member s k && eqb k b) ≡ false
-    apart e k = ⊎-elim (λ same. and-left _ _ (ap (member s) same ∙ e)) (λ ne. and-right _ _ (ne-eqb k b ne)) (cases-eq k b)
-    gone : member s b ≡ false → not (eqb (bitAnd s (only b)) 0) ≡ member s b
-    gone e =
-        let none : bitAnd s (only b) ≡ 0 = same-set _ 0 (omega (arith, and-le-l s (only b))) (omega arith) (λ k l. both k l ∙ apart e k ∙ sym (member-none k)) in
-        ap not (eq-eqb _ 0 none) ∙ sym e
-
--- The boards of a set and one board more.
-pub with-made : (s b : ℕ) → With s b (bitOr s (only b))
-with-made s b k h = member-or s (only b) k ∙ ap (λ t. member s k || t) (member-only b k h)
-
-pub with-above : (s b : ℕ) → 8 ≤ b → bitOr s (only b) ≡ s
-with-above s b h = ap (bitOr s) (only-above b h) ∙ or-zero-r s
-
--- The boards of a set but for one.
-pub without-made : (s b : ℕ) → Without s b (bitAnd s (255 - only b))
-without-made s b k h = member-and s (255 - only b) k ∙ ap (λ t. member s k && t) (member-rest b k h)
-
-pub without-above : (s b : ℕ) → s < 256 → 8 ≤ b → bitAnd s (255 - only b) ≡ s
-without-above s b l h = ap (λ x. bitAnd s (255 - x)) (only-above b h) ∙ and-mask s 8 ∙ omega arith
+pub size-all : size 255 ≡ 8
+unfolding size tally member
+size-all = refl
