@@ -41,7 +41,7 @@ cut r w n rest h =
     let z = 16 - (r + w) in
     let e : 16 ≡ r + (w + z) = omega arith in
     let split : bitsOf 16 n ≡ bitsOf r (n / 2 ^ (w + z)) ++ (bitsOf w (n / 2 ^ z) ++ bitsOf z n) =
-      ap (λ m. bitsOf m n) e ∙ parts r (w + z) n ∙ ap (λ l. bitsOf r (n / 2 ^ (w + z)) ++ l) (parts w z n) in
+    ap (λ m. bitsOf m n) e ∙ parts r (w + z) n ∙ ap (λ l. bitsOf r (n / 2 ^ (w + z)) ++ l) (parts w z n) in
     let x = bitsOf r (n / 2 ^ (w + z)) in
     let y = bitsOf w (n / 2 ^ z) in
     ap (λ l. take w (drop r (l ++ rest))) split
@@ -95,7 +95,7 @@ got-on {s} {t} {w} {v} ok o h g e =
     let d : drop w bs ≡ drop (at t) (bits (src t)) = drop-drop w (at s) (bits (src s)) ∙ (λ i. drop (sym (g .moved) i) (bits (sym (g .same) i))) in
     record {
       on = λ k. field-good w ok k bs (at s) (omega (arith, left-long s, g .inside)) (ap ok (sym n) ∙ e)
-        ∙ (λ i. more (Item.num w (sym n i) ∷ []) (outcome (k (sym n i)) (d i) (sym (g .moved) i)));
+          ∙ (λ i. more (Item.num w (sym n i) ∷ []) (outcome (k (sym n i)) (d i) (sym (g .moved) i)));
       allowed = e;
       below = g .below;
       moved = g .moved;
@@ -138,11 +138,11 @@ part-on n m s v t z h mn is same byte bit =
     let room : n ≤ length cs = simp length-drop (omega arith) in
     let is′ : v .now ≡ take n cs = is ∙ ap (λ j. take j cs) mn in
     let cut : bs ≡ bits (take n cs) ++ bits (drop n cs) =
-      left-bits s ∙ ap (λ j. drop j (bits cs)) z ∙ ap bits (sym (take-append-drop n cs)) ∙ bits-append (take n cs) (drop n cs) in
+    left-bits s ∙ ap (λ j. drop j (bits cs)) z ∙ ap bits (sym (take-append-drop n cs)) ∙ bits-append (take n cs) (drop n cs) in
     let len : length (take n cs) ≡ n = length-take-le n cs room in
     let all = all-take n cs (all-drop (s .byte) (src s) (all-below (src s) (s .fit))) in
     let x : bytesOf n bs ≡ v .now =
-      (λ i. bytesOf (sym len i) (cut i)) ∙ bytes-bits (take n cs) (bits (drop n cs)) all ∙ sym is′ in
+    (λ i. bytesOf (sym len i) (cut i)) ∙ bytes-bits (take n cs) (bits (drop n cs)) all ∙ sym is′ in
     let d : drop (8 * n) bs ≡ drop (at t) (bits (src t)) = drop-drop (8 * n) (at s) (bits (src s)) ∙ (λ i. drop (sym moved i) (bits (sym same i))) in
     record {
       on = λ k. part-good n k bs (at s) (omega (arith, left-long s, s .inside)) ∙ (λ i. more (Item.raw (x i) ∷ []) (outcome (k (x i)) (d i) (sym moved i)));

@@ -1,35 +1,27 @@
 -- A message by its kind: what was read of kind, view and body is what the whole bytes spell.
 -- Laws used: the outcome of a grammar is exact, and bytes are told by their bits.
 use mathlib.Core.Path.{_≡_, sym, ap, _∙_, subst}
-use mathlib.Core.List.{List, [], _∷_, _++_}
-use Prim.Native.Nat.{ℕ, suc, _*_, _/_, _<_}
-use native.Mathlib.Omega.{arith}
-use lib.ListN.{length, getD}
-use Rattle.std.specs.shelf.Lists.{All}
+use mathlib.Core.List.{List, [], _∷_}
+use Prim.Native.Nat.{ℕ, _<_}
+use lib.ListN.{getD}
 use Rattle.std.specs.declared.result.Result.{Result}
 use Rattle.std.specs.declared.result.Result.the-variants.{Ok, Err}
-use Rattle.std.proofs.shelf.Lists.{append-nil}
 use Rattle.grammar.specs.declared.fault.Fault.{Fault}
-use Rattle.grammar.specs.Bits.{bits, bytesOf}
-use Rattle.grammar.specs.Grammar.{Grammar, Item, Stands, more, outcome, from-to, spell}
-use Rattle.grammar.proofs.Bits.{length-bits, bytes-bits}
+use Rattle.grammar.specs.Bits.{bits}
+use Rattle.grammar.specs.Grammar.{Grammar, Item, Stands, more, outcome, from-to}
 use Rattle.grammar.proofs.Lawful.{exact, faults}
 use Rattle.grammar.proofs.Steps.{more-more}
 use Rattle.wire.specs.declared.message.Message.{Message}
 use Rattle.wire.specs.Fields.{view}
 use Rattle.wire.specs.Messages.{meaning}
-use Rattle.wire.specs.Format.{message, values, body, packed, Formed, form}
+use Rattle.wire.specs.Format.{message, values, body}
 use Rattle.reader.specs.declared.place.Reader.{Reader}
 use Rattle.reader.specs.Places.{met, Begun, Read}
-use Rattle.reader.specs.Told.{Reads, told, Body-read}
+use Rattle.wire.specs.Reads.{Reads}
+use Rattle.wire.proofs.Packed.{packed-is}
+use Rattle.reader.specs.Told.{told, Body-read}
 use Rattle.reader.proofs.Bridge.{all-below}
 use Rattle.reader.proofs.Chains.{read}
-
-packed-is : (bs : List ℕ) (is : List Item) → All (λ x. x < 256) bs → bits bs ≡ spell is → bs ≡ packed is
-unfolding packed
-packed-is bs is a e =
-    let n : length bs ≡ length (bits bs) / 8 = omega (arith, length-bits bs) in
-    sym (ap (bytesOf (length bs)) (sym (append-nil (bits bs))) ∙ bytes-bits bs [] a) ∙ (λ i. bytesOf (n i) (bits bs)) ∙ ap (λ l. bytesOf (length l / 8) l) e
 
 -- by the laws of grammars, the outcome says it all
 pub so : (bs : List ℕ) (e : Fault) → outcome message (bits bs) 0 ≡ Err e → Reads bs (Err e)

@@ -53,10 +53,10 @@ entered-by {s} {s1} {s2} {s3} {t} {e} {c} {v} z p0 p1 p2 p3 =
     let te : v .now ≡ take 8 (drop (b + 1) xs) = p3 .found .0 ∙ (λ i. take 8 (drop (b3 i) (x3 i))) in
     record {
       on = λ k.
-        p0 .on (λ e′. Grammar.field 1 (from-to 0 0) (λ _. Grammar.field 3 (from-to 0 (cond (eqb e′ 0) 0 7)) (λ _. Grammar.part 8 (λ _. k e′))))
-        ∙ ap (more (Item.num 4 e ∷ [])) (p1 .on (λ _. Grammar.field 3 (from-to 0 (cond (eqb e 0) 0 7)) (λ _. Grammar.part 8 (λ _. k e)))
+          p0 .on (λ e′. Grammar.field 1 (from-to 0 0) (λ _. Grammar.field 3 (from-to 0 (cond (eqb e′ 0) 0 7)) (λ _. Grammar.part 8 (λ _. k e′))))
+          ∙ ap (more (Item.num 4 e ∷ [])) (p1 .on (λ _. Grammar.field 3 (from-to 0 (cond (eqb e 0) 0 7)) (λ _. Grammar.part 8 (λ _. k e)))
           ∙ ap (more (Item.num 1 0 ∷ [])) (p2 .on (λ _. Grammar.part 8 (λ _. k e)) ∙ ap (more (Item.num 3 c ∷ [])) (p3 .on (λ _. k e))))
-        ∙ flat (Item.num 4 e) (Item.num 1 0) (Item.num 3 c) (Item.raw (v .now)) (met (k e) t);
+          ∙ flat (Item.num 4 e) (Item.num 1 0) (Item.num 3 c) (Item.raw (v .now)) (met (k e) t);
       found = λ i. record { entry = record { earlier = ee i; change = ce i }; tag = te i };
       same = p3 .found .1 ∙ x3;
       moved = omega (arith, p0 .moved, p1 .moved, p2 .moved, p3 .moved, t .small);
@@ -96,7 +96,9 @@ pub start : (n : ℕ) (s : Reader) → s .bit ≡ 0 → Going n 0 0 s s
 unfolding replies-in replies-values
 start n s z = let e : n ≡ n - 0 = omega arith in record {
   on = λ k. more-none (met (entries n 0 k) s) ∙ (λ i. more [] (met (entries (e i) 0 k) s));
-  same = refl; moved = omega arith; whole = z;
+  same = refl;
+  moved = omega arith;
+  whole = z;
 }
 
 one-more : (m n i top : ℕ) → n - i ≡ suc m → (k : ℕ → Grammar) → entries (n - i) top k ≡ entered (λ e. entries m (max top e) k)
@@ -112,9 +114,9 @@ next n i top {s} {t} {u} {x} h g e =
     let all : fields-in i xs ++ items (reply-at xs (9 * i)) ≡ fields-in (i + 1) xs = sym (fields-more i xs) ∙ ap (λ j. fields-in j xs) (sym (add-one i)) in
     record {
       on = λ k.
-        let rest = met (entries m (max top (x .entry .earlier)) k) u in
-        g .on k ∙ ap (more (fields-in i xs)) (ap (λ f. met f t) (one-more m n i top d k) ∙ e .on (λ y. entries m (max top y) k) ∙ ap (λ y. more (items y) rest) (e .found ∙ here))
-        ∙ more-more (fields-in i xs) (items (reply-at xs (9 * i))) rest ∙ ap (λ is. more is rest) all;
+          let rest = met (entries m (max top (x .entry .earlier)) k) u in
+          g .on k ∙ ap (more (fields-in i xs)) (ap (λ f. met f t) (one-more m n i top d k) ∙ e .on (λ y. entries m (max top y) k) ∙ ap (λ y. more (items y) rest) (e .found ∙ here))
+          ∙ more-more (fields-in i xs) (items (reply-at xs (9 * i))) rest ∙ ap (λ is. more is rest) all;
       same = e .same ∙ g .same;
       moved = omega (arith, e .moved, g .moved);
       whole = e .whole;
@@ -151,4 +153,4 @@ pub cut-off : {s s1 s2 s3 : Reader} {e c : ℕ} (f : Fault) → Read 4 (from-to 
 cut-off {s} {s1} {s2} {s3} {e} {c} f p0 p1 p2 p3 k =
     p0 .on (λ e′. Grammar.field 1 (from-to 0 0) (λ _. Grammar.field 3 (from-to 0 (cond (eqb e′ 0) 0 7)) (λ _. Grammar.part 8 (λ _. k e′))))
     ∙ ap (more (Item.num 4 e ∷ [])) (p1 .on (λ _. Grammar.field 3 (from-to 0 (cond (eqb e 0) 0 7)) (λ _. Grammar.part 8 (λ _. k e)))
-      ∙ ap (more (Item.num 1 0 ∷ [])) (p2 .on (λ _. Grammar.part 8 (λ _. k e)) ∙ ap (more (Item.num 3 c ∷ [])) (p3 (λ _. k e))))
+    ∙ ap (more (Item.num 1 0 ∷ [])) (p2 .on (λ _. Grammar.part 8 (λ _. k e)) ∙ ap (more (Item.num 3 c ∷ [])) (p3 (λ _. k e))))

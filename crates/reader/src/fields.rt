@@ -6,8 +6,8 @@ ghost use lib.ListN.{length, getD};
 ghost use Rattle.boards.specs.Boards.{only};
 ghost use Rattle.grammar.specs.Grammar.{from-to};
 ghost use Rattle.reader.specs.Places.{Field-read, Value-read, Constant-read, Part-read, Lone-read, Sort-read, Ended, Begun};
-use boards::Set;
 use crate::place::Reader;
+use boards::Set;
 use grammar::fault::Fault;
 use grammar::fault::Layer;
 use wire::message::Sort;
@@ -41,7 +41,10 @@ impl<'a> Reader<'a> {
         let len = self.src.len();
         let need = if end > 8 { 2 } else { 1 };
         if len - self.byte < need {
-            return Err(Fault { layer: Layer::Bytes, place: len });
+            return Err(Fault {
+                layer: Layer::Bytes,
+                place: len,
+            });
         }
         let hi = self.src[self.byte] as u16;
         let lo = byte_or_zero(self.src, self.byte + 1) as u16;
@@ -63,7 +66,10 @@ impl<'a> Reader<'a> {
         let place = self.byte;
         let v = self.field(width)?;
         if v < least || v > most {
-            return Err(Fault { layer: Layer::Field, place });
+            return Err(Fault {
+                layer: Layer::Field,
+                place,
+            });
         }
         Ok(v)
     }
@@ -84,7 +90,10 @@ impl<'a> Reader<'a> {
         let place = self.byte;
         let set = self.field(8)?;
         if set.count_ones() != 1 {
-            return Err(Fault { layer: Layer::Field, place });
+            return Err(Fault {
+                layer: Layer::Field,
+                place,
+            });
         }
         Ok(set.leading_zeros() as u8)
     }
@@ -114,7 +123,10 @@ impl<'a> Reader<'a> {
         let src = self.src;
         let at = self.byte;
         if src.len() - at < n {
-            return Err(Fault { layer: Layer::Bytes, place: src.len() });
+            return Err(Fault {
+                layer: Layer::Bytes,
+                place: src.len(),
+            });
         }
         self.byte = at + n;
         Ok(&src[at..at + n])
@@ -126,7 +138,10 @@ impl<'a> Reader<'a> {
         ensures { λ r. ⌜ Ended (now (self .entry)) r ⌝ }
     {
         if self.byte < self.src.len() {
-            return Err(Fault { layer: Layer::Bytes, place: self.byte });
+            return Err(Fault {
+                layer: Layer::Bytes,
+                place: self.byte,
+            });
         }
         Ok(())
     }

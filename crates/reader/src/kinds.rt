@@ -2,7 +2,7 @@
 // Format: docs/FRAMES.md, "Kinds".
 ghost use mathlib.Core.Path.{_≡_};
 ghost use Rattle.reader.specs.Told.{Body-read};
-use boards::Set;
+use crate::parts::Reply;
 use crate::parts::all;
 use crate::parts::carried;
 use crate::parts::entered;
@@ -10,8 +10,8 @@ use crate::parts::graded;
 use crate::parts::lone_tag;
 use crate::parts::proof;
 use crate::parts::tagged;
-use crate::parts::Reply;
 use crate::place::Reader;
+use boards::Set;
 use grammar::fault::Fault;
 use wire::message::Entries;
 use wire::message::Message;
@@ -25,7 +25,12 @@ pub(crate) fn notify<'a>(mut r: Reader<'a>, view: u8) -> Result<Message<'a>, Fau
     let change = r.value(3, 0, 7)?;
     let (speaker, tag) = lone_tag(&mut r)?;
     r.end()?;
-    Ok(Message::Notify { view, change, speaker, tag: Tags::Heard(tag) })
+    Ok(Message::Notify {
+        view,
+        change,
+        speaker,
+        tag: Tags::Heard(tag),
+    })
 }
 
 pub(crate) fn suggest<'a>(mut r: Reader<'a>, view: u8) -> Result<Message<'a>, Fault>
@@ -36,7 +41,12 @@ pub(crate) fn suggest<'a>(mut r: Reader<'a>, view: u8) -> Result<Message<'a>, Fa
     let change = r.value(3, 0, 7)?;
     let (set, tags) = tagged(&mut r)?;
     r.end()?;
-    Ok(Message::Suggest { view, change, set: Set { bits: set }, tags: Tags::Heard(tags) })
+    Ok(Message::Suggest {
+        view,
+        change,
+        set: Set { bits: set },
+        tags: Tags::Heard(tags),
+    })
 }
 
 pub(crate) fn ack<'a>(mut r: Reader<'a>, view: u8) -> Result<Message<'a>, Fault>
@@ -46,7 +56,13 @@ pub(crate) fn ack<'a>(mut r: Reader<'a>, view: u8) -> Result<Message<'a>, Fault>
     let (rank, change) = graded(&mut r)?;
     let (speaker, tag) = lone_tag(&mut r)?;
     r.end()?;
-    Ok(Message::Ack { view, rank, change, speaker, tag: Tags::Heard(tag) })
+    Ok(Message::Ack {
+        view,
+        rank,
+        change,
+        speaker,
+        tag: Tags::Heard(tag),
+    })
 }
 
 pub(crate) fn proposal<'a>(mut r: Reader<'a>, view: u8) -> Result<Message<'a>, Fault>
@@ -56,7 +72,13 @@ pub(crate) fn proposal<'a>(mut r: Reader<'a>, view: u8) -> Result<Message<'a>, F
     let (rank, change) = graded(&mut r)?;
     let (set, tags) = tagged(&mut r)?;
     r.end()?;
-    Ok(Message::Proposal { view, rank, change, set: Set { bits: set }, tags: Tags::Heard(tags) })
+    Ok(Message::Proposal {
+        view,
+        rank,
+        change,
+        set: Set { bits: set },
+        tags: Tags::Heard(tags),
+    })
 }
 
 pub(crate) fn ready<'a>(mut r: Reader<'a>, view: u8) -> Result<Message<'a>, Fault>
@@ -66,7 +88,13 @@ pub(crate) fn ready<'a>(mut r: Reader<'a>, view: u8) -> Result<Message<'a>, Faul
     let (rank, change) = graded(&mut r)?;
     let (speaker, tag) = lone_tag(&mut r)?;
     r.end()?;
-    Ok(Message::Ready { view, rank, change, speaker, tag: Tags::Heard(tag) })
+    Ok(Message::Ready {
+        view,
+        rank,
+        change,
+        speaker,
+        tag: Tags::Heard(tag),
+    })
 }
 
 pub(crate) fn change<'a>(mut r: Reader<'a>, view: u8) -> Result<Message<'a>, Fault>
@@ -76,7 +104,13 @@ pub(crate) fn change<'a>(mut r: Reader<'a>, view: u8) -> Result<Message<'a>, Fau
     let (rank, change) = graded(&mut r)?;
     let (set, tags) = tagged(&mut r)?;
     r.end()?;
-    Ok(Message::Change { view, rank, change, set: Set { bits: set }, tags: Tags::Heard(tags) })
+    Ok(Message::Change {
+        view,
+        rank,
+        change,
+        set: Set { bits: set },
+        tags: Tags::Heard(tags),
+    })
 }
 
 pub(crate) fn deputy<'a>(mut r: Reader<'a>, view: u8) -> Result<Message<'a>, Fault>
@@ -86,7 +120,12 @@ pub(crate) fn deputy<'a>(mut r: Reader<'a>, view: u8) -> Result<Message<'a>, Fau
     let rank = r.value(4, 1, 8)?;
     let (speaker, tag) = lone_tag(&mut r)?;
     r.end()?;
-    Ok(Message::Deputy { view, rank, speaker, tag: Tags::Heard(tag) })
+    Ok(Message::Deputy {
+        view,
+        rank,
+        speaker,
+        tag: Tags::Heard(tag),
+    })
 }
 
 pub(crate) fn query<'a>(mut r: Reader<'a>, view: u8) -> Result<Message<'a>, Fault>
@@ -96,7 +135,12 @@ pub(crate) fn query<'a>(mut r: Reader<'a>, view: u8) -> Result<Message<'a>, Faul
     let rank = r.value(4, 1, 8)?;
     let (set, tags) = tagged(&mut r)?;
     r.end()?;
-    Ok(Message::Query { view, rank, set: Set { bits: set }, tags: Tags::Heard(tags) })
+    Ok(Message::Query {
+        view,
+        rank,
+        set: Set { bits: set },
+        tags: Tags::Heard(tags),
+    })
 }
 
 pub(crate) fn last<'a>(mut r: Reader<'a>, view: u8) -> Result<Message<'a>, Fault>
@@ -108,7 +152,15 @@ pub(crate) fn last<'a>(mut r: Reader<'a>, view: u8) -> Result<Message<'a>, Fault
     let Reply { entry, tag } = entered(&mut r)?;
     let (proof, acks) = proof(&mut r, entry.earlier)?;
     r.end()?;
-    Ok(Message::Last { view, rank, speaker, entry, tag: Tags::Heard(tag), proof: Set { bits: proof }, acks: Tags::Heard(acks) })
+    Ok(Message::Last {
+        view,
+        rank,
+        speaker,
+        entry,
+        tag: Tags::Heard(tag),
+        proof: Set { bits: proof },
+        acks: Tags::Heard(acks),
+    })
 }
 
 pub(crate) fn suggest_last<'a>(mut r: Reader<'a>, view: u8) -> Result<Message<'a>, Fault>
@@ -120,7 +172,14 @@ pub(crate) fn suggest_last<'a>(mut r: Reader<'a>, view: u8) -> Result<Message<'a
     let (highest, entries) = all(&mut r, Set { bits: set }.len())?;
     let (proof, acks) = proof(&mut r, highest)?;
     r.end()?;
-    Ok(Message::SuggestLast { view, rank, set: Set { bits: set }, entries: Entries::Heard(entries), proof: Set { bits: proof }, acks: Tags::Heard(acks) })
+    Ok(Message::SuggestLast {
+        view,
+        rank,
+        set: Set { bits: set },
+        entries: Entries::Heard(entries),
+        proof: Set { bits: proof },
+        acks: Tags::Heard(acks),
+    })
 }
 
 pub(crate) fn init<'a>(mut r: Reader<'a>, view: u8) -> Result<Message<'a>, Fault>
@@ -131,7 +190,11 @@ pub(crate) fn init<'a>(mut r: Reader<'a>, view: u8) -> Result<Message<'a>, Fault
     r.just(content.sender)?;
     let tag = r.bytes(8)?;
     r.end()?;
-    Ok(Message::Init { view, content, tag: Tags::Heard(tag) })
+    Ok(Message::Init {
+        view,
+        content,
+        tag: Tags::Heard(tag),
+    })
 }
 
 pub(crate) fn echo<'a>(mut r: Reader<'a>, view: u8) -> Result<Message<'a>, Fault>
@@ -141,7 +204,12 @@ pub(crate) fn echo<'a>(mut r: Reader<'a>, view: u8) -> Result<Message<'a>, Fault
     let content = carried(&mut r)?;
     let (speaker, tag) = lone_tag(&mut r)?;
     r.end()?;
-    Ok(Message::Echo { view, content, speaker, tag: Tags::Heard(tag) })
+    Ok(Message::Echo {
+        view,
+        content,
+        speaker,
+        tag: Tags::Heard(tag),
+    })
 }
 
 pub(crate) fn commit<'a>(mut r: Reader<'a>, view: u8) -> Result<Message<'a>, Fault>
@@ -151,5 +219,10 @@ pub(crate) fn commit<'a>(mut r: Reader<'a>, view: u8) -> Result<Message<'a>, Fau
     let content = carried(&mut r)?;
     let (set, tags) = tagged(&mut r)?;
     r.end()?;
-    Ok(Message::Commit { view, content, set: Set { bits: set }, tags: Tags::Heard(tags) })
+    Ok(Message::Commit {
+        view,
+        content,
+        set: Set { bits: set },
+        tags: Tags::Heard(tags),
+    })
 }

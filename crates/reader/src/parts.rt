@@ -7,8 +7,8 @@ ghost use mathlib.Core.Bool.{cond};
 ghost use Rattle.boards.specs.Boards.{size};
 ghost use Rattle.reader.specs.Places.{Part-read};
 ghost use Rattle.reader.specs.Parts.{Lone-tag-read, Tagged-read, Proof-read, Entered-read, Entries-read, Graded-read, Carried-read};
-use boards::Set;
 use crate::place::Reader;
+use boards::Set;
 use grammar::fault::Fault;
 use wire::message::Content;
 use wire::message::Entry;
@@ -47,7 +47,11 @@ pub(crate) fn proof<'a>(r: &mut Reader<'a>, earlier: u8) -> Result<(u8, &'a [u8]
     requires { ⌜ now r .bit ≡ 0 ⌝ }
     ensures { λ x. ⌜ Proof-read earlier (now (r .entry)) x (now (r .exit)) ⌝ }
 {
-    let set = if earlier == 0 { r.value(8, 0, 0)? } else { r.value(8, 1, 255)? };
+    let set = if earlier == 0 {
+        r.value(8, 0, 0)?
+    } else {
+        r.value(8, 1, 255)?
+    };
     let tags = tags_of(r, set)?;
     Ok((set, tags))
 }
@@ -68,7 +72,10 @@ pub(crate) fn entered<'a>(r: &mut Reader<'a>) -> Result<Reply<'a>, Fault>
     r.constant(1, 0)?;
     let change = r.value(3, 0, last_change(earlier))?;
     let tag = r.bytes(8)?;
-    Ok(Reply { entry: Entry { earlier, change }, tag })
+    Ok(Reply {
+        entry: Entry { earlier, change },
+        tag,
+    })
 }
 
 // No change without an earlier rank.
@@ -123,5 +130,10 @@ pub(crate) fn carried<'a>(r: &mut Reader<'a>) -> Result<Content<'a>, Fault>
         Sort::End => r.value(6, 1, 1)?,
     };
     let payload = r.bytes(length as usize)?;
-    Ok(Content { sender, number, sort, payload })
+    Ok(Content {
+        sender,
+        number,
+        sort,
+        payload,
+    })
 }

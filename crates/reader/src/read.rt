@@ -1,6 +1,7 @@
 // Reads heard bytes: the message that they spell, or the first fault met from the front.
 // Rules: docs/FRAMES.md, "Faults". Nothing is copied: the message names parts of the heard bytes.
-ghost use Rattle.reader.specs.Told.{Reads, told};
+ghost use Rattle.wire.specs.Reads.{Reads};
+ghost use Rattle.reader.specs.Told.{told};
 use crate::fields::reader;
 use crate::kinds::ack;
 use crate::kinds::change;

@@ -44,18 +44,18 @@ words a = packed (signed-values a)
 abbrev pub signed-bodies : List Grammar
 signed-bodies =
     Grammar.done
-    ∷ zeros 1 (change Grammar.done)                                                                              -- 1 notify
+    ∷ zeros 1 (change Grammar.done)  -- 1 notify
     ∷ Grammar.done
-    ∷ graded Grammar.done                                                                                        -- 3 ack
+    ∷ graded Grammar.done  -- 3 ack
     ∷ Grammar.done
-    ∷ graded Grammar.done                                                                                        -- 5 ready
+    ∷ graded Grammar.done  -- 5 ready
     ∷ Grammar.done
-    ∷ rank Grammar.done                                                                                          -- 7 deputy
+    ∷ rank Grammar.done  -- 7 deputy
     ∷ Grammar.done
-    ∷ rank (Grammar.field 4 (from-to 0 8) (λ e. zeros 1 (Grammar.field 3 (from-to 0 (cond (eqb e 0) 0 7)) (λ _. Grammar.done)))) -- 9 last
+    ∷ rank (Grammar.field 4 (from-to 0 8) (λ e. zeros 1 (Grammar.field 3 (from-to 0 (cond (eqb e 0) 0 7)) (λ _. Grammar.done))))  -- 9 last
     ∷ Grammar.done
-    ∷ carried (λ _. Grammar.done)                                                                                -- 11 init
-    ∷ carried (λ _. Grammar.done)                                                                                -- 12 echo
+    ∷ carried (λ _. Grammar.done)  -- 11 init
+    ∷ carried (λ _. Grammar.done)  -- 12 echo
     ∷ []
 
 abbrev pub lone-kind : ℕ → Bool

@@ -30,7 +30,7 @@ graded k = rank (zeros 5 (change k))
 abbrev pub carried : (ℕ → Grammar) → Grammar
 carried k =
     Grammar.field 3 (from-to 0 7) (λ sender. Grammar.field 8 (from-to 1 255) (λ _. Grammar.field 3 (from-to 0 1) (λ sort.
-      Grammar.field 6 (from-to (cond (eqb sort 1) 1 0) (cond (eqb sort 1) 1 48)) (λ n. Grammar.part n (λ _. k sender)))))
+    Grammar.field 6 (from-to (cond (eqb sort 1) 1 0) (cond (eqb sort 1) 1 48)) (λ n. Grammar.part n (λ _. k sender)))))
 
 -- A set of just one board.
 unfoldable pub lone : ℕ → Bool

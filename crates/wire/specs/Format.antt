@@ -14,20 +14,20 @@ use Rattle.wire.specs.Messages.{Msg, Reply, sort-number}
 -- The table: what follows kind and view.
 abbrev pub bodies : List Grammar
 bodies =
-    Grammar.done                                                                                              -- 0 is no kind
-    ∷ zeros 1 (change (lone-tag Grammar.done))                                                                -- 1 notify
-    ∷ zeros 1 (change (tagged Grammar.done))                                                                  -- 2 suggest
-    ∷ graded (lone-tag Grammar.done)                                                                          -- 3 ack
-    ∷ graded (tagged Grammar.done)                                                                            -- 4 proposal
-    ∷ graded (lone-tag Grammar.done)                                                                          -- 5 ready
-    ∷ graded (tagged Grammar.done)                                                                            -- 6 change
-    ∷ rank (lone-tag Grammar.done)                                                                            -- 7 deputy
-    ∷ rank (tagged Grammar.done)                                                                              -- 8 query
-    ∷ rank (Grammar.field 8 lone (λ _. entered (λ e. proof e Grammar.done)))                                  -- 9 last
-    ∷ rank (Grammar.field 8 (from-to 0 255) (λ s. entries (size s) 0 (λ top. proof top Grammar.done)))        -- 10 suggest-last
-    ∷ carried own-tag                                                                                         -- 11 init
-    ∷ carried (λ _. lone-tag Grammar.done)                                                                    -- 12 echo
-    ∷ carried (λ _. tagged Grammar.done)                                                                      -- 13 commit
+    Grammar.done  -- 0 is no kind
+    ∷ zeros 1 (change (lone-tag Grammar.done))  -- 1 notify
+    ∷ zeros 1 (change (tagged Grammar.done))  -- 2 suggest
+    ∷ graded (lone-tag Grammar.done)  -- 3 ack
+    ∷ graded (tagged Grammar.done)  -- 4 proposal
+    ∷ graded (lone-tag Grammar.done)  -- 5 ready
+    ∷ graded (tagged Grammar.done)  -- 6 change
+    ∷ rank (lone-tag Grammar.done)  -- 7 deputy
+    ∷ rank (tagged Grammar.done)  -- 8 query
+    ∷ rank (Grammar.field 8 lone (λ _. entered (λ e. proof e Grammar.done)))  -- 9 last
+    ∷ rank (Grammar.field 8 (from-to 0 255) (λ s. entries (size s) 0 (λ top. proof top Grammar.done)))  -- 10 suggest-last
+    ∷ carried own-tag  -- 11 init
+    ∷ carried (λ _. lone-tag Grammar.done)  -- 12 echo
+    ∷ carried (λ _. tagged Grammar.done)  -- 13 commit
     ∷ []
 
 abbrev pub body : ℕ → Grammar

@@ -29,7 +29,10 @@ pub enum Tags<'a> {
 #[derive(Clone, Copy)]
 pub enum Entries<'a> {
     Heard(&'a [u8]),
-    Stored { entries: &'a [Entry; 8], tags: &'a [u64; 8] },
+    Stored {
+        entries: &'a [Entry; 8],
+        tags: &'a [u64; 8],
+    },
 }
 
 // What kinds 11 to 13 carry: the number-th payload of a sender.
@@ -43,17 +46,90 @@ pub struct Content<'a> {
 
 #[derive(Clone, Copy)]
 pub enum Message<'a> {
-    Notify { view: u8, change: u8, speaker: u8, tag: Tags<'a> },
-    Suggest { view: u8, change: u8, set: Set, tags: Tags<'a> },
-    Ack { view: u8, rank: u8, change: u8, speaker: u8, tag: Tags<'a> },
-    Proposal { view: u8, rank: u8, change: u8, set: Set, tags: Tags<'a> },
-    Ready { view: u8, rank: u8, change: u8, speaker: u8, tag: Tags<'a> },
-    Change { view: u8, rank: u8, change: u8, set: Set, tags: Tags<'a> },
-    Deputy { view: u8, rank: u8, speaker: u8, tag: Tags<'a> },
-    Query { view: u8, rank: u8, set: Set, tags: Tags<'a> },
-    Last { view: u8, rank: u8, speaker: u8, entry: Entry, tag: Tags<'a>, proof: Set, acks: Tags<'a> },
-    SuggestLast { view: u8, rank: u8, set: Set, entries: Entries<'a>, proof: Set, acks: Tags<'a> },
-    Init { view: u8, content: Content<'a>, tag: Tags<'a> },
-    Echo { view: u8, content: Content<'a>, speaker: u8, tag: Tags<'a> },
-    Commit { view: u8, content: Content<'a>, set: Set, tags: Tags<'a> },
+    Notify {
+        view: u8,
+        change: u8,
+        speaker: u8,
+        tag: Tags<'a>,
+    },
+    Suggest {
+        view: u8,
+        change: u8,
+        set: Set,
+        tags: Tags<'a>,
+    },
+    Ack {
+        view: u8,
+        rank: u8,
+        change: u8,
+        speaker: u8,
+        tag: Tags<'a>,
+    },
+    Proposal {
+        view: u8,
+        rank: u8,
+        change: u8,
+        set: Set,
+        tags: Tags<'a>,
+    },
+    Ready {
+        view: u8,
+        rank: u8,
+        change: u8,
+        speaker: u8,
+        tag: Tags<'a>,
+    },
+    Change {
+        view: u8,
+        rank: u8,
+        change: u8,
+        set: Set,
+        tags: Tags<'a>,
+    },
+    Deputy {
+        view: u8,
+        rank: u8,
+        speaker: u8,
+        tag: Tags<'a>,
+    },
+    Query {
+        view: u8,
+        rank: u8,
+        set: Set,
+        tags: Tags<'a>,
+    },
+    Last {
+        view: u8,
+        rank: u8,
+        speaker: u8,
+        entry: Entry,
+        tag: Tags<'a>,
+        proof: Set,
+        acks: Tags<'a>,
+    },
+    SuggestLast {
+        view: u8,
+        rank: u8,
+        set: Set,
+        entries: Entries<'a>,
+        proof: Set,
+        acks: Tags<'a>,
+    },
+    Init {
+        view: u8,
+        content: Content<'a>,
+        tag: Tags<'a>,
+    },
+    Echo {
+        view: u8,
+        content: Content<'a>,
+        speaker: u8,
+        tag: Tags<'a>,
+    },
+    Commit {
+        view: u8,
+        content: Content<'a>,
+        set: Set,
+        tags: Tags<'a>,
+    },
 }

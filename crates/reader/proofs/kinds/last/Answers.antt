@@ -9,4 +9,4 @@ pub returns : need.returns
 returns c =
     ap (more (Item.num 4 9 ∷ Item.num 8 (c .args .view) ∷ []))
     (read _ (c .in-Continue-rank .ensures tt) _ (read _ (c .in-Continue-speaker .ensures tt .read) _
-      (one _ (c .in-Continue-entry .ensures tt) (λ e. proof e Grammar.done) (passed _ (c .in-Continue-proof .ensures tt) Grammar.done (c .in-Continue-end .ensures tt)))))
+    (one _ (c .in-Continue-entry .ensures tt) (λ e. proof e Grammar.done) (passed _ (c .in-Continue-proof .ensures tt) Grammar.done (c .in-Continue-end .ensures tt)))))

@@ -27,9 +27,9 @@ returns c =
     record {
       inside = search needs;
       value = masked n width w
-        ∙ ap (λ l. (getD (src self) (self .byte) 0 * 256 + l) / 2 ^ (16 - (self .bit + width)) % 2 ^ width) (c .byte-or-zero-lo .ensures .0)
-        ∙ ap (λ i. pair (src self) i / 2 ^ (16 - (self .bit + width)) % 2 ^ width) (sym q)
-        ∙ ap (λ k. pair (src self) (at self / 8) / 2 ^ (16 - (k + width)) % 2 ^ width) (sym r);
+          ∙ ap (λ l. (getD (src self) (self .byte) 0 * 256 + l) / 2 ^ (16 - (self .bit + width)) % 2 ^ width) (c .byte-or-zero-lo .ensures .0)
+          ∙ ap (λ i. pair (src self) i / 2 ^ (16 - (self .bit + width)) % 2 ^ width) (sym q)
+          ∙ ap (λ k. pair (src self) (at self / 8) / 2 ^ (16 - (k + width)) % 2 ^ width) (sym r);
       below = masked-below n width w;
       same = search needs;
       moved = search needs;
