@@ -15,7 +15,7 @@ use Rattle.grammar.specs.Grammar.{Grammar, Item, After, from-to}
 use Rattle.grammar.proofs.Held.{Held, held, stand}
 use Rattle.boards.specs.Boards.{member, size, place}
 use Rattle.boards.proofs.Members.{member-none}
-use Rattle.boards.proofs.Sets.{place-below}
+use Rattle.boards.proofs.Sets.{place-below, size-zero}
 use Rattle.wire.specs.declared.message.Sort.{Sort}
 use Rattle.wire.specs.declared.message.Sort.the-variants.{Report, End}
 use Rattle.wire.specs.declared.message.Entry.{Entry}
@@ -171,6 +171,35 @@ proved-allowed (Msg.suggest-last v r s es p a) b f i = proved-ack v (lowest es) 
 proved-allowed (Msg.init v s n k p t) b f i = no-boards b i
 proved-allowed (Msg.echo v s n k p c t) b f i = no-boards b i
 proved-allowed (Msg.commit v s n k p c t) b f i = no-boards b i
+
+-- The lowest earlier rank of a suggest-last has a change that is allowed.
+pub lowest-fits : (v r s : ℕ) (es : List Reply) (p : ℕ) (a : List ℕ) → Formed (Msg.suggest-last v r s es p a) → Entry-allowed (lowest es)
+lowest-fits v r s es p a f = lowest-allowed es (answered (size s) 0 es p a (held f .3 .3 .3 .3) .each)
+
+highest-from : (top : ℕ) (es : List Reply) → top ≤ highest top es
+highest-from top [] = omega arith
+highest-from top (e ∷ es) = omega (arith, highest-from (max top (e .entry .earlier)) es)
+
+-- Where some reply has an earlier rank, the highest is not 0.
+some-highest : (top : ℕ) (es : List Reply) → 0 < lowest es .earlier → 0 < highest top es
+unfolding lowest
+some-highest top [] h = absurd (omega arith)
+some-highest top (e ∷ es) h =
+    let one = lower-by (λ x. 0 < x .earlier → (0 < e .entry .earlier) ⊎ (0 < lowest es .earlier)) (e .entry) (lowest es) (λ _ l. inl l) (λ l _. inr l) h in
+    ⊎-elim (λ l. omega (arith, highest-from (max top (e .entry .earlier)) es)) (λ l. some-highest (max top (e .entry .earlier)) es l) one
+
+-- A proof for an earlier rank has a board.
+proof-some : (top p : ℕ) → 0 < top → p < 256 → from-to (cond (eqb top 0) 0 1) (cond (eqb top 0) 0 255) p ≡ true → 1 ≤ size p
+proof-some top p h byte e =
+    let no : eqb top 0 ≡ false = ne-eqb top 0 (λ z. omega (arith, z, h)) in
+    let first : _≡_ {A = ℕ} (cond (eqb top 0) 0 1) 1 = cond-false (eqb top 0) 0 1 no in
+    let low = leb-true (cond (eqb top 0) 0 1) p (and-parts (leb (cond (eqb top 0) 0 1) p) _ e .0) in
+    ⊎-elim (λ l. l) (λ l. absurd (omega (arith, first, low, size-zero p byte (omega arith)))) (cases-lt 0 (size p))
+
+pub proof-shown : (v r s : ℕ) (es : List Reply) (p : ℕ) (a : List ℕ) → Formed (Msg.suggest-last v r s es p a) → 0 < lowest es .earlier → 1 ≤ size p
+proof-shown v r s es p a f h =
+    let q = answered (size s) 0 es p a (held f .3 .3 .3 .3) in
+    proof-some (highest 0 es) p (some-highest 0 es h) (q .after .1) (q .after .2)
 
 -- A payload has at most 48 bytes.
 pub payload-le : (k : Sort) (n : ℕ) → from-to (cond (eqb (sort-number k) 1) 1 0) (cond (eqb (sort-number k) 1) 1 48) n ≡ true → n ≤ 48

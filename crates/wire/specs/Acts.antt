@@ -9,6 +9,7 @@ use lib.ListN.{length, getD, take, drop}
 use Rattle.std.specs.declared.option.Option.{Option}
 use Rattle.std.specs.declared.option.Option.the-variants.{Some, None}
 use Rattle.boards.specs.Boards.{place, only}
+use Rattle.grammar.specs.Bits.{bits, numberOf}
 use Rattle.grammar.specs.Grammar.{Grammar, Item, After, from-to}
 use Rattle.wire.specs.declared.message.Sort.{Sort}
 use Rattle.wire.specs.declared.message.Entry.{Entry}
@@ -106,6 +107,10 @@ act-of (Msg.commit v s n k p b′ t) b = Act.echo v s n k p
 -- The eight bytes at a place among tags.
 abbrev pub tag-at : ℕ → List ℕ → List ℕ
 tag-at i t = take 8 (drop (8 * i) t)
+
+-- The number that a tag's bytes make, the top one first.
+unfoldable pub tag-number : List ℕ → ℕ
+tag-number t = numberOf (bits t)
 
 -- Board b's tag, where b is among the signers: the one at its place, by rising board number.
 abbrev pub tag-of : Msg → ℕ → List ℕ

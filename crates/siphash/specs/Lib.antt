@@ -1,0 +1,3 @@
+-- The definition of SipHash-2-4.
+-- It is what the contract of `siphash` cites.
+pub mod SipHash

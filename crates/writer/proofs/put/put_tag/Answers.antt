@@ -1,0 +1,7 @@
+-- A write to a part leaves what stands before and after it.
+use borrow.Author.Needs.{needs}
+use Rattle.std.proofs.shelf.Parts.{overwrites}
+use Rattle.writer.proofs.put.put_tag.Needs as need
+
+pub returns : need.returns
+returns c = record { place = search needs; after = search (needs, overwrites) }
