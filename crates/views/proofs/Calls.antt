@@ -11,8 +11,7 @@ use Rattle.std.specs.declared.result.Result.{Result}
 use Rattle.std.specs.declared.result.Result.the-variants.{Ok, Err}
 use Rattle.codes.specs.declared.Refusal.{Refusal}
 use Rattle.views.specs.declared.history.History.{History}
-use Rattle.views.specs.Groups.{toggle}
-use Rattle.views.specs.Histories.{members-of, change-of, begun, grown, Sound, Open, Shut, Defines}
+use Rattle.views.specs.Histories.{members-of, begun, grown, Sound, Open, Shut, Defines}
 use Rattle.views.specs.Laws.{Leads, Reached, Views-stay, Latest-rises-by-one, Views-have-members, One-board-changes, Next-by-change}
 use Rattle.views.proofs.Histories.{next-view, begun-sound, grown-latest, grown-stay, grown-members, grown-sound}
 

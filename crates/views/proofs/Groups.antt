@@ -9,9 +9,9 @@ use native.Mathlib.Nat.{div-le-self}
 use lib.Bits.{bitXor}
 use lib.Dec.{eqb}
 use Rattle.std.proofs.shelf.Bits.{xor-lt, xor-shr, xor-mod, mod-below}
-use Rattle.std.proofs.shelf.Tests.{both-ways, cases-bool, cases-eq, cases-lt, eq-eqb, eqb-true, ne-eqb, cond-true, cond-false, not-from-true, not-from-false}
+use Rattle.std.proofs.shelf.Tests.{both-ways, cases-bool, cases-eq, cases-lt, eq-eqb, eqb-true, ne-eqb, cond-true, cond-false}
 use Rattle.boards.specs.Boards.{member, only, size, With, Without}
-use Rattle.boards.proofs.Members.{member-above, member-below, member-bit, member-only, same-set}
+use Rattle.boards.proofs.Members.{member-above, member-bit, member-only, same-set}
 use Rattle.boards.proofs.Sets.{same-place, size-with-new, size-without-member}
 use Rattle.views.specs.Groups.{toggle, Toggle-turns-one, Manager}
 

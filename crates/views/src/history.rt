@@ -80,7 +80,9 @@ impl Views {
 
     // The number of the latest view, 1 to 64.
     pub fn latest(&self) -> u8
-        ensures { λ r. ⌜ r ≡ now (self .entry) .history .latest ⌝ }
+        ensures is { λ r. ⌜ r ≡ now (self .entry) .history .latest ⌝ }
+        ensures some { λ r. ⌜ 1 ≤ r ⌝ }
+        ensures few { λ r. ⌜ r ≤ 64 ⌝ }
     {
         self.history.latest
     }

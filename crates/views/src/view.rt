@@ -1,6 +1,7 @@
 // A view: a set of boards that is never empty, with its shares, its ranks, its manager and its next view.
 // Rule: docs/RULES.md, "Views, shares and ranks". Words of the contracts: specs/Groups.antt, specs/Shares.antt.
 ghost use mathlib.Core.Path.{_≡_};
+ghost use mathlib.Core.Bool.{true};
 ghost use Prim.Native.Nat.{_<_, _≤_};
 ghost use Rattle.std.specs.Results.{Cases};
 ghost use Rattle.boards.specs.Boards.{member, size, Rank, Holder};
@@ -66,7 +67,8 @@ impl View {
 
     // Whether the board is a member.
     pub fn has(&self, board: u8) -> bool
-        ensures { λ r. ⌜ r ≡ member (now (self .entry) .set .bits) board ⌝ }
+        ensures is { λ r. ⌜ r ≡ member (now (self .entry) .set .bits) board ⌝ }
+        ensures below { λ r. ⌜ (r ≡ true → board < 8) ⌝ }
     {
         self.set.has(board)
     }

@@ -13,7 +13,7 @@ use Rattle.boards.specs.Boards.{member, place}
 use Rattle.wire.specs.declared.message.Tags.{Tags}
 use Rattle.wire.specs.declared.message.Entry.{Entry}
 use Rattle.wire.specs.declared.message.Entries.{Entries}
-use Rattle.wire.specs.Messages.{Msg, tag-bytes, tags-of, reply-at, heard-replies, stored-replies, replies-of}
+use Rattle.wire.specs.Messages.{Msg, view-of, tag-bytes, tags-of, reply-at, heard-replies, stored-replies, replies-of}
 use Rattle.wire.specs.Acts.{Act, signers, act-of, tag-of, tag-at, no-reply, lower, lowest}
 use Rattle.words.specs.declared.statement.Statement.{Statement}
 use Rattle.words.specs.declared.proof.Proof.{Proof}
@@ -32,6 +32,10 @@ pub record Stands-at (s b i : ℕ) : Type 0 where
 -- Board b is a signer of a message, with i signers before it.
 abbrev pub Signs-at : Msg → ℕ → ℕ → Type 0
 Signs-at m b i = Stands-at (signers m) b i
+
+-- The view that a message is for.
+abbrev pub For-view : Msg → ℕ → Type 0
+For-view m v = v ≡ view-of m
 
 -- What a signer's tag stands for.
 abbrev pub Stated-by : Msg → ℕ → Statement → Type 0

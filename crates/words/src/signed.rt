@@ -1,7 +1,7 @@
 // The tags of a message: whose they are, what each stands for, and the tag itself.
 // Rules: docs/FRAMES.md, "Signed words". Words of the contracts: specs/Signed.antt.
 ghost use Rattle.wire.specs.Messages.{meaning};
-ghost use Rattle.words.specs.Places.{Ack-tagged, Proof-of, Signs-at, Stated-by, Tag-by};
+ghost use Rattle.words.specs.Places.{Ack-tagged, For-view, Proof-of, Signs-at, Stated-by, Tag-by};
 ghost use Rattle.words.specs.Signed.{Proof-tagged, Proves, Signed-by, States, Tagged};
 use crate::proof::Proof;
 use crate::replies::entry_of;
@@ -51,55 +51,50 @@ fn stated<'a>(m: &Message<'a>, board: u8, place: u8) -> Statement<'a>
     requires { ⌜ Signs-at (meaning (now m)) board place ⌝ }
     ensures { λ r. ⌜ Stated-by (meaning (now (m .entry))) board r ⌝ }
 {
+    let view = view_of(m);
     match *m {
-        Message::Notify { view, change, .. } => Statement::Notify { view, change },
-        Message::Suggest { view, change, .. } => Statement::Notify { view, change },
-        Message::Ack {
-            view,
-            rank,
-            change,
-            ..
-        } => Statement::Ack { view, rank, change },
-        Message::Proposal {
-            view,
-            rank,
-            change,
-            ..
-        } => Statement::Ack { view, rank, change },
-        Message::Ready {
-            view,
-            rank,
-            change,
-            ..
-        } => Statement::Ready { view, rank, change },
-        Message::Change {
-            view,
-            rank,
-            change,
-            ..
-        } => Statement::Ready { view, rank, change },
-        Message::Deputy { view, rank, .. } => Statement::Deputy { view, rank },
-        Message::Query { view, rank, .. } => Statement::Deputy { view, rank },
-        Message::Last {
-            view,
-            rank,
-            entry,
-            ..
-        } => Statement::Last { view, rank, entry },
+        Message::Notify { change, .. } => Statement::Notify { view, change },
+        Message::Suggest { change, .. } => Statement::Notify { view, change },
+        Message::Ack { rank, change, .. } => Statement::Ack { view, rank, change },
+        Message::Proposal { rank, change, .. } => Statement::Ack { view, rank, change },
+        Message::Ready { rank, change, .. } => Statement::Ready { view, rank, change },
+        Message::Change { rank, change, .. } => Statement::Ready { view, rank, change },
+        Message::Deputy { rank, .. } => Statement::Deputy { view, rank },
+        Message::Query { rank, .. } => Statement::Deputy { view, rank },
+        Message::Last { rank, entry, .. } => Statement::Last { view, rank, entry },
         Message::SuggestLast {
-            view,
             rank,
             set,
             entries,
             ..
-        } => Statement::Last {
-            view,
-            rank,
-            entry: entry_of(set, entries, board, place),
-        },
-        Message::Init { view, content, .. } => Statement::Init { view, content },
-        Message::Echo { view, content, .. } => Statement::Echo { view, content },
-        Message::Commit { view, content, .. } => Statement::Echo { view, content },
+        } => {
+            let entry = entry_of(set, entries, board, place);
+            Statement::Last { view, rank, entry }
+        }
+        Message::Init { content, .. } => Statement::Init { view, content },
+        Message::Echo { content, .. } => Statement::Echo { view, content },
+        Message::Commit { content, .. } => Statement::Echo { view, content },
+    }
+}
+
+// The view that a message is for.
+fn view_of(m: &Message<'_>) -> u8
+    ensures { λ r. ⌜ For-view (meaning (now (m .entry))) r ⌝ }
+{
+    match *m {
+        Message::Notify { view, .. } => view,
+        Message::Suggest { view, .. } => view,
+        Message::Ack { view, .. } => view,
+        Message::Proposal { view, .. } => view,
+        Message::Ready { view, .. } => view,
+        Message::Change { view, .. } => view,
+        Message::Deputy { view, .. } => view,
+        Message::Query { view, .. } => view,
+        Message::Last { view, .. } => view,
+        Message::SuggestLast { view, .. } => view,
+        Message::Init { view, .. } => view,
+        Message::Echo { view, .. } => view,
+        Message::Commit { view, .. } => view,
     }
 }
 

@@ -1,6 +1,5 @@
 -- The entry of the table at a number of members is its share and its quorum.
 -- The table keeps the rule.
-use borrow.Author.Needs.{needs}
 use native.Mathlib.Omega.{arith}
 use Rattle.views.proofs.Rule.{share-is, quorum-rest}
 use Rattle.views.proofs.shares.shares_of.Needs as need

@@ -1,7 +1,6 @@
 -- The next view is this one but for its change.
 -- The law of that is in Histories.
 use mathlib.Core.Path.{sym, ap, _∙_}
-use native.Mathlib.Omega.{arith}
 use Rattle.views.specs.Groups.{toggle}
 use Rattle.views.specs.Histories.{change-of}
 use Rattle.views.proofs.Histories.{next-view}

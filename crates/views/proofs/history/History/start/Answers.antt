@@ -1,7 +1,6 @@
 -- View 1 has the members that the history began with.
 -- The law of that is in Histories.
 use mathlib.Core.Path.{sym}
-use native.Mathlib.Omega.{arith}
 use Rattle.views.proofs.Histories.{first-view}
 use Rattle.views.proofs.history.History.start.Needs as need
 
