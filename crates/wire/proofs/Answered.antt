@@ -18,7 +18,7 @@ use Rattle.std.specs.declared.result.Result.the-variants.{Ok, Err}
 use Rattle.grammar.specs.declared.fault.Layer.the-variants.{Bytes, Field}
 use Rattle.grammar.specs.declared.fault.Fault.{Fault}
 use Rattle.grammar.specs.Bits.{bits, bitsOf}
-use Rattle.grammar.specs.Grammar.{Grammar, Item, Stands, First, Left, fault, spell}
+use Rattle.grammar.specs.Grammar.{Grammar, Item, After, Stands, First, Left, fault, spell}
 use Rattle.grammar.proofs.Bits.{length-bits, length-bitsOf}
 use Rattle.grammar.proofs.Lawful.{one-or-other, single}
 use Rattle.grammar.proofs.Cuts.{cut, over, over-or-short, field-fault}
@@ -54,7 +54,7 @@ stands m f = record { allowed = f; form = whole m }
 pub message-of : (bs : List ℕ) (is : List Item) → Byte-list bs → Stands message is (bits bs) → (m : Msg) × Formed m × (bs ≡ form m)
 message-of bs is b s =
     let r = spelt is (s .allowed) in
-    (r .0, subst (λ l. Rattle.grammar.specs.Grammar.After message l Grammar.done) (r .1) (s .allowed), packed-is bs is b (s .form) ∙ ap packed (r .1))
+    (r .0, subst (λ l. After message l Grammar.done) (r .1) (s .allowed), packed-is bs is b (s .form) ∙ ap packed (r .1))
 
 stands-in : (bs : List ℕ) (m : Msg) → Formed m → bs ≡ form m → Stands message (values m) (bits bs)
 stands-in bs m f e = subst (λ l. Stands message (values m) (bits l)) (sym e) (stands m f)
@@ -113,7 +113,7 @@ left-over bs q b r =
     let s : Left message (bits bs) 0 q = o .0 (omega (arith, long)) in
     let k = spelt (s .items) (s .stands .allowed) in
     let m = k .0 in
-    let f : Formed m = subst (λ l. Rattle.grammar.specs.Grammar.After message l Grammar.done) (k .1) (s .stands .allowed) in
+    let f : Formed m = subst (λ l. After message l Grammar.done) (k .1) (s .stands .allowed) in
     let front : s .front ≡ bits (form m) = s .stands .form ∙ ap spell (k .1) ∙ sym (whole m) in
     let parts = front-of bs m (s .rest) b (s .form ∙ ap (λ l. l ++ s .rest) front) in
     let xs = drop (length (form m)) bs in

@@ -5,8 +5,8 @@ use mathlib.Core.Bool.{Bool, true, false, cond}
 use mathlib.Core.Logic.{⊎-elim}
 use Prim.Native.Nat.{ℕ, _<_, _≤_}
 use native.Mathlib.Omega.{arith}
-use lib.Dec.{eqb}
-use Rattle.std.proofs.shelf.Tests.{cases-lt, cases-bool, eq-eqb, ne-eqb, eqb-true}
+use lib.Dec.{eqb, ltb}
+use Rattle.std.proofs.shelf.Tests.{cases-lt, cases-bool, both-ways, eq-eqb, ne-eqb, eqb-true, ltb-true}
 use Rattle.boards.specs.Boards.{member, only, size, place}
 use Rattle.boards.proofs.Members.{every, at-every, member-only, member-below, only-above, same-set}
 use Rattle.boards.proofs.Sets.{size-none, place-some, place-below, same-place}
@@ -23,7 +23,7 @@ speaker-only b h = eqb-true (speaker (only b)) b (at-every (λ k. eqb (speaker (
 
 only-below-256 : (b : ℕ) → b < 8 → only b < 256
 unfolding only
-only-below-256 b h = Rattle.std.proofs.shelf.Tests.ltb-true (only b) 256 (at-every (λ k. lib.Dec.ltb (only k) 256) 8 refl b h)
+only-below-256 b h = ltb-true (only b) 256 (at-every (λ k. ltb (only k) 256) 8 refl b h)
 
 pub lone-size : (s : ℕ) → lone s ≡ true → size s ≡ 1
 unfolding lone
@@ -40,6 +40,6 @@ lone-is s h e =
     let b = r .0 in
     let same : (k : ℕ) → k < 8 → member s k ≡ eqb k b = λ k l.
     ⊎-elim (λ m. m ∙ sym (eq-eqb k b (same-place s k b m (r .2) (omega (arith, place-below s k m, one, r .3)))))
-    (λ m. m ∙ sym (ne-eqb k b (λ q. Rattle.std.proofs.shelf.Tests.both-ways (member s k) m (ap (member s) q ∙ r .2)))) (cases-bool (member s k)) in
+    (λ m. m ∙ sym (ne-eqb k b (λ q. both-ways (member s k) m (ap (member s) q ∙ r .2)))) (cases-bool (member s k)) in
     let is : s ≡ only b = same-set s (only b) h (only-below-256 b (r .1)) (λ k l. same k l ∙ sym (member-only b k l)) in
     is ∙ ap only (sym (ap speaker is ∙ speaker-only b (r .1)))

@@ -2,5 +2,3 @@
 -- Each file says in its first lines what it is for.
 pub mod Building
 pub mod Spelling
-pub mod Listed
-pub mod Lowest

@@ -1,0 +1,23 @@
+use mathlib.Core.Path.{refl}
+use native.Mathlib.Omega.{arith}
+use lib.ListN.{length}
+use Rattle.flatsat.proofs.Turns.{going-none, going-more, less, some-bytes, printed}
+use Rattle.flatsat.proofs.play.play.Needs as need
+
+pub loop-rest-holds : need.loop-rest-holds
+loop-rest-holds c = going-none _ _ _
+
+pub loop-rest-again : need.loop-rest-again
+loop-rest-again c =
+    going-more (c .loop-rest .inv) (c .loop-rest-test .ensures tt) (c .next-line .ensures .0) (c .in-Continue-page .ensures tt) (c .next-line .ensures .1)
+
+pub loop-rest-less : need.loop-rest-less
+loop-rest-less c = less (c .loop-rest .rest .now) (c .next-line .result .1 .now) (c .loop-rest-test .ensures tt) (c .next-line .ensures .1)
+
+pub line-requires : need.line-requires
+line-requires c κs =
+    omega (arith, c .loop-rest .inv .few, some-bytes (length (c .loop-rest .rest .now)) (c .loop-rest-test .ensures tt), c .new-2 .ensures .0, c .new-2 .ensures .1, c .new-2 .ensures .2)
+
+pub returns : need.returns
+returns c =
+    printed (c .loop-rest .page .text) (c .tally-line .result) (c .loop-rest .inv) (c .new .ensures .items) (c .new-2 .ensures) (c .loop-rest-test .ensures tt) refl (c .tally-line .ensures)

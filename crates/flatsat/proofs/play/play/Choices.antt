@@ -1,0 +1,10 @@
+use lib.ListN.{length}
+use Rattle.std.specs.Of.Vec.{vec-items}
+use Rattle.flatsat.proofs.Turns.{Going}
+use Rattle.flatsat.proofs.play.play.Given as given
+
+abbrev pub Inv-loop-rest : given.InvT-loop-rest
+Inv-loop-rest l = Going (l .entry .rest) (vec-items (l .entry .page .text)) (l .entry .page .tally) (l .rest) (vec-items (l .page .text)) (l .page .tally)
+
+abbrev pub μ-loop-rest : given.MeasureT-loop-rest
+μ-loop-rest l = length (l .rest)

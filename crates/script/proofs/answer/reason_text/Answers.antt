@@ -1,0 +1,12 @@
+use mathlib.Core.Path.{sym, ap}
+use Rattle.script.specs.Outcomes.{reason-text}
+use Rattle.script.proofs.answer.reason_text.Needs as need
+
+pub returns-in-UnknownCall : need.returns-in-UnknownCall
+returns-in-UnknownCall c = sym (ap reason-text (c .in-UnknownCall .is))
+
+pub returns-in-TooFewWords : need.returns-in-TooFewWords
+returns-in-TooFewWords c = sym (ap reason-text (c .in-TooFewWords .is))
+
+pub returns-in-NotHexadecimal : need.returns-in-NotHexadecimal
+returns-in-NotHexadecimal c = sym (ap reason-text (c .in-NotHexadecimal .is))

@@ -1,0 +1,12 @@
+use borrow.Author.Needs.{needs}
+use mathlib.Core.Path.{refl}
+use native.Mathlib.Omega.{arith}
+use mathlib.Core.Logic.{inl, inr}
+use Rattle.std.proofs.shelf.Equals.{matches-decides}
+use Rattle.script.proofs.call.digits.Needs as need
+
+pub returns-then-eq : need.returns-then-eq
+returns-then-eq c = inl (matches-decides _ _ _ (c .eq .ensures) .0 (c .if-eq .taken), c .first .ensures)
+
+pub returns : need.returns
+returns c = inr (refl, search needs, omega arith)

@@ -1,0 +1,19 @@
+use mathlib.Core.Path.{_≡_, sym, subst}
+use Rattle.script.specs.declared.line.Line.{Line}
+use Rattle.script.specs.declared.answer.Answer.{Answer}
+use Rattle.script.specs.Lines.{Wrote}
+use Rattle.script.specs.Outcomes.{answer-text}
+use Rattle.script.proofs.Chains.{then, same}
+use Rattle.script.proofs.line.Line.answer.Needs as need
+
+known : {a b : Line} {m m′ : Answer} → m ≡ m′ → Wrote a (answer-text m′) b → Wrote a (answer-text m) b
+known {a} {b} e h = subst (λ x. Wrote a (answer-text x) b) (sym e) h
+
+pub returns-in-Heard : need.returns-in-Heard
+returns-in-Heard c = known (c .in-Heard .is) (c .message .ensures)
+
+pub returns-in-Refused : need.returns-in-Refused
+returns-in-Refused c = known (c .in-Refused .is) (then (c .text .ensures) (c .refusal .ensures))
+
+pub returns-in-Wrong : need.returns-in-Wrong
+returns-in-Wrong c = known (c .in-Wrong .is) (then (c .text-in-Wrong .ensures) (same (c .text-in-Wrong-2 .ensures) (c .reason-text .ensures)))

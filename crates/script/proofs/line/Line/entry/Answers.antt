@@ -1,0 +1,6 @@
+use borrow.Author.Needs.{needs}
+use Rattle.script.proofs.Chains.{then, same}
+use Rattle.script.proofs.line.Line.entry.Needs as need
+
+pub returns : need.returns
+returns c = same (then (c .decimal .ensures) (then (c .byte .ensures) (c .decimal-2 .ensures))) (search needs)

@@ -1,0 +1,5 @@
+use Rattle.script.proofs.Chains.{then}
+use Rattle.script.proofs.line.Line.graded.Needs as need
+
+pub returns : need.returns
+returns c = then (c .ranked .ensures) (c .number .ensures)

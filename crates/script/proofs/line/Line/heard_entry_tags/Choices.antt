@@ -1,0 +1,8 @@
+use mathlib.Core.List.{map}
+use Rattle.wire.specs.Messages.{replies-in}
+use Rattle.script.specs.Texts.{entry-text, hex}
+use Rattle.script.proofs.Listings.{Up-to}
+use Rattle.script.proofs.line.Line.heard_entry_tags.Given as given
+
+abbrev pub Inv-loop-i : given.InvT-loop-i
+Inv-loop-i l = Up-to (λ n. map (λ e. hex (e .tag)) (replies-in n (l .bytes))) (l .entry .list) (l .i) (l .list)

@@ -1,0 +1,5 @@
+use Rattle.script.proofs.Chains.{named}
+use Rattle.script.proofs.line.Line.number.Needs as need
+
+pub returns : need.returns
+returns c = named _ (c .name .ensures) (c .decimal .ensures)

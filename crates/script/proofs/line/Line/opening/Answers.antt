@@ -1,0 +1,5 @@
+use Rattle.script.proofs.Chains.{then}
+use Rattle.script.proofs.line.Line.opening.Needs as need
+
+pub returns : need.returns
+returns c = then (c .text .ensures) (c .number .ensures)

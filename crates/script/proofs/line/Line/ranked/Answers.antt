@@ -1,0 +1,5 @@
+use Rattle.script.proofs.Chains.{then}
+use Rattle.script.proofs.line.Line.ranked.Needs as need
+
+pub returns : need.returns
+returns c = then (c .opening .ensures) (c .number .ensures)

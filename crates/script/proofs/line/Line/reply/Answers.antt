@@ -1,0 +1,5 @@
+use Rattle.script.proofs.Chains.{then, named}
+use Rattle.script.proofs.line.Line.reply.Needs as need
+
+pub returns : need.returns
+returns c = then (c .number .ensures) (then (named _ (c .name .ensures) (c .entry .ensures)) (c .own-tag .ensures))

@@ -1,0 +1,5 @@
+use Rattle.script.proofs.Chains.{then}
+use Rattle.script.proofs.line.Line.spoken.Needs as need
+
+pub returns : need.returns
+returns c = then (c .number .ensures) (c .own-tag .ensures)

@@ -1,0 +1,6 @@
+use Prim.Native.Nat.{_*_}
+use Rattle.script.proofs.Undoing.{Read-so}
+use Rattle.script.proofs.line.Line.unhex.Given as given
+
+abbrev pub Inv-loop-i : given.InvT-loop-i
+Inv-loop-i l = Read-so (l .entry .line) (l .digits) (2 * l .i) (l .line)

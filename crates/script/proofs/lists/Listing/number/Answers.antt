@@ -1,0 +1,5 @@
+use Rattle.script.proofs.Listings.{lists-more}
+use Rattle.script.proofs.lists.Listing.number.Needs as need
+
+pub returns : need.returns
+returns c = lists-more (c .args .self) (c .comma .ensures) (c .decimal .ensures)

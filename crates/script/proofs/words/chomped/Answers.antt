@@ -1,0 +1,5 @@
+use Rattle.script.proofs.Wording.{unchomped}
+use Rattle.script.proofs.words.chomped.Needs as need
+
+pub returns-then-n-eq0 : need.returns-then-n-eq0
+returns-then-n-eq0 c = unchomped (c .args .line .now) (c .if-n-eq0 .taken)

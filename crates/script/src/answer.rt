@@ -1,0 +1,135 @@
+// Answers as lines: a message that was heard, a refusal, or what is wrong with the line of the script.
+// The texts: specs/Outcomes.antt.
+ghost use mathlib.Core.Path.{_≡_};
+ghost use Prim.Native.Nat.{_+_};
+ghost use Rattle.script.specs.Lines.{Wrote, Adds};
+ghost use Rattle.script.specs.Outcomes.{reason-text, refusal-text, answer-text, answer-line, tally-line, Counted};
+use crate::line::Line;
+use crate::tally::Tally;
+use codes::Refusal;
+use codes::layer_name;
+use std::alloc::AllocError;
+use wire::message::Message;
+
+// What is wrong with a line of the script.
+#[derive(Clone, Copy)]
+pub enum Reason {
+    NotText,
+    UnknownCall,
+    TooFewWords,
+    TooManyWords,
+    NotHexadecimal,
+    OddDigits,
+}
+
+// What a line of the script is answered.
+#[derive(Clone, Copy)]
+pub enum Answer<'a> {
+    Heard(Message<'a>),
+    Refused(Refusal),
+    Wrong(Reason),
+}
+
+// A reason in plain words.
+fn reason_text(reason: Reason) -> &'static str
+    ensures { λ r. ⌜ now r ≡ reason-text reason ⌝ }
+{
+    match reason {
+        Reason::NotText => "not text",
+        Reason::UnknownCall => "unknown call",
+        Reason::TooFewWords => "too few words",
+        Reason::TooManyWords => "too many words",
+        Reason::NotHexadecimal => "not hexadecimal",
+        Reason::OddDigits => "odd number of digits",
+    }
+}
+
+impl Line {
+    // A refusal: number and name of its code, and what it tells of a fault.
+    fn refusal(self, refusal: Refusal) -> Line
+        ensures { λ r. ⌜ Wrote self (refusal-text refusal) r ⌝ }
+    {
+        let line = self.decimal(refusal.number() as u64).byte(b' ').text(refusal.name());
+        match refusal.fault() {
+            Some(fault) => line.byte(b' ').text(layer_name(fault.layer)).byte(b' ').decimal(fault.place as u64),
+            None => line,
+        }
+    }
+
+    // An answer of any kind.
+    fn answer(self, answer: Answer<'_>) -> Line
+        ensures { λ r. ⌜ Wrote self (answer-text (answer .entry)) r ⌝ }
+    {
+        match answer {
+            Answer::Heard(message) => self.message(message),
+            Answer::Refused(refusal) => self.text("refused ").refusal(refusal),
+            Answer::Wrong(reason) => self.text("error ").text(reason_text(reason)),
+        }
+    }
+
+    // The whole line of an answer.
+    fn answered(self, number: u64, answer: Answer<'_>) -> Line
+        ensures { λ r. ⌜ Wrote self (answer-line number (answer .entry)) r ⌝ }
+    {
+        self.decimal(number).byte(b' ').answer(answer).byte(b'\n')
+    }
+
+    // The last line.
+    fn tallied(self, tally: Tally) -> Line
+        ensures { λ r. ⌜ Wrote self (tally-line tally) r ⌝ }
+    {
+        self.decimal(tally.calls())
+            .text(" calls: ")
+            .decimal(tally.ok)
+            .text(" ok, ")
+            .decimal(tally.refused)
+            .text(" refused, ")
+            .decimal(tally.wrong)
+            .text(" error\n")
+    }
+}
+
+// Adds the line of an answer to bytes.
+pub fn answer_line(out: Vec<u8>, number: u64, answer: Answer<'_>) -> Result<Vec<u8>, AllocError>
+    ensures { λ r. ⌜ Adds out (answer-line number (answer .entry)) r ⌝ }
+{
+    Line::on(out).answered(number, answer).taken()
+}
+
+// Adds the last line of a script to bytes.
+pub fn tally_line(out: Vec<u8>, tally: Tally) -> Result<Vec<u8>, AllocError>
+    ensures { λ r. ⌜ Adds out (tally-line tally) r ⌝ }
+{
+    Line::on(out).tallied(tally).taken()
+}
+
+impl Tally {
+    // No call yet.
+    pub fn new() -> Tally
+        ensures { λ r. ⌜ (r .ok ≡ 0) × (r .refused ≡ 0) × (r .wrong ≡ 0) ⌝ }
+    {
+        Tally { ok: 0, refused: 0, wrong: 0 }
+    }
+
+    // How many calls there were.
+    pub fn calls(self) -> u64
+        ensures { λ r. ⌜ r ≡ self .ok + self .refused + self .wrong ⌝ }
+    {
+        self.ok + self.refused + self.wrong
+    }
+
+    // One more call with this answer; none where the count is at the end of its numbers.
+    pub fn count(self, answer: Answer<'_>) -> Option<Tally>
+        ensures { λ r. ⌜ Counted self (answer .entry) r ⌝ }
+    {
+        if self.calls() == u64::MAX {
+            return None;
+        }
+        let Tally { ok, refused, wrong } = self;
+        Some(match answer {
+            Answer::Heard(_) => Tally { ok: ok + 1, refused, wrong },
+            Answer::Refused(_) => Tally { ok, refused: refused + 1, wrong },
+            Answer::Wrong(_) => Tally { ok, refused, wrong: wrong + 1 },
+        })
+    }
+}

@@ -1,0 +1,13 @@
+// The tester's script: lines of text to calls, and the answers of calls to lines of text.
+// Format: docs/SCRIPT.md. What each text is, byte for byte, is said in specs/.
+pub mod answer;
+pub mod call;
+pub mod hex;
+mod line;
+mod lists;
+mod numbers;
+mod parts;
+mod shown;
+mod tags;
+pub mod tally;
+pub mod words;
