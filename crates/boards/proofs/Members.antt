@@ -12,19 +12,9 @@ use lib.Pow.{pow-mono}
 use lib.Count.{ones, ones-step}
 use lib.Dec.{eqb, ltb}
 use Rattle.std.proofs.shelf.Bits.{and-shr, or-shr, and-mod, or-mod, shr-shr, mod-below, div-below, pow-pos}
-use Rattle.std.proofs.shelf.Tests.{and-left, and-parts, cases-eq, cases-lt, le-ltb, lt-ltb, ltb-true, ne-eqb, true≢false}
-use Rattle.boards.specs.Boards.{member, only, one, tally, size, place}
-
--- A test passes at each number below n, computed.
-abbrev pub every : (ℕ → Bool) → ℕ → Bool
-every f zero = true
-every f (suc n) = every f n && f n
-
-pub at-every : (f : ℕ → Bool) (n : ℕ) → every f n ≡ true → (k : ℕ) → k < n → f k ≡ true
-at-every f zero e k h = absurd (omega arith)
-at-every f (suc n) e k h =
-    let p = and-parts (every f n) (f n) e in
-    ⊎-elim (λ same. ap f same ∙ p .1) (λ other. at-every f n (p .0) k (omega arith)) (cases-eq k n)
+use Rattle.std.proofs.shelf.Tests.{and-left, and-parts, cases-lt, le-ltb, lt-ltb, ltb-true, ne-eqb, true≢false}
+use Rattle.boards.specs.Boards.{member, only, one, every, tally, size, place}
+use Rattle.boards.proofs.Chosen.{every-at}
 
 abbrev same : Bool → Bool → Bool
 same true b = b
@@ -86,9 +76,9 @@ member-or a b k =
     ∙ ap (λ t. ltb k 8 && t) (bits (λ x y. eqb (bitOr x y) 1 ≡ (eqb x 1 || eqb y 1)) refl refl refl refl _ _ (low a j) (low b j)) ∙ or-share (ltb k 8) _ _
 
 pub member-none : (k : ℕ) → member 0 k ≡ false
-unfolding member
+unfolding member every
 member-none k =
-    ⊎-elim (λ h. from-same _ _ (at-every (λ j. same (member 0 j) false) 8 refl k h)) (member-above 0 k) (cases-lt k 8)
+    ⊎-elim (λ h. from-same _ _ (every-at (λ j. same (member 0 j) false) 8 k refl h)) (member-above 0 k) (cases-lt k 8)
 
 pub only-above : (b : ℕ) → 8 ≤ b → only b ≡ 0
 unfolding only
@@ -99,15 +89,15 @@ only-above b h =
 
 -- Two tests of two boards agree if they agree at the 64 pairs.
 table : (f g : ℕ → ℕ → Bool) → every (λ i. every (λ j. same (f i j) (g i j)) 8) 8 ≡ true → (b k : ℕ) → b < 8 → k < 8 → f b k ≡ g b k
-table f g e b k hb hk = from-same _ _ (at-every (λ j. same (f b j) (g b j)) 8 (at-every (λ i. every (λ j. same (f i j) (g i j)) 8) 8 e b hb) k hk)
+table f g e b k hb hk = from-same _ _ (every-at (λ j. same (f b j) (g b j)) 8 k (every-at (λ i. every (λ j. same (f i j) (g i j)) 8) 8 b e hb) hk)
 
 only-table : (b k : ℕ) → b < 8 → k < 8 → member (only b) k ≡ eqb k b
-unfolding member only
+unfolding member only every
 only-table = table (λ b k. member (only b) k) (λ b k. eqb k b) refl
 
 pub member-all : (k : ℕ) → k < 8 → member 255 k ≡ true
-unfolding member
-member-all = at-every (member 255) 8 refl
+unfolding member every
+member-all k h = every-at (member 255) 8 k refl h
 
 -- No board is one above 7.
 pub none-above : (b : ℕ) → 8 ≤ b → (k : ℕ) → k < 8 → member 0 k ≡ eqb k b

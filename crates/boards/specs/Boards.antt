@@ -27,6 +27,16 @@ unfoldable pub tally : (ℕ → Bool) → ℕ → ℕ
 tally P zero = 0
 tally P (suc n) = tally P n + one (P n)
 
+-- Whether all of the boards below n pass a test.
+unfoldable pub every : (ℕ → Bool) → ℕ → Bool
+every P zero = true
+every P (suc n) = every P n && P n
+
+-- Whether some board below n passes a test.
+unfoldable pub any : (ℕ → Bool) → ℕ → Bool
+any P zero = false
+any P (suc n) = any P n || P n
+
 -- How many boards a set has.
 unfoldable pub size : ℕ → ℕ
 size s = tally (member s) 8

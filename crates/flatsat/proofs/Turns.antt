@@ -9,21 +9,13 @@ use native.Mathlib.Omega.{arith}
 use borrow.Author.Needs.{needs}
 use lib.Dec.{eqb}
 use lib.ListN.{length, drop}
-use Rattle.std.specs.Of.Vec.{vec-items}
-use Rattle.std.specs.Vec.{made}
-use Rattle.std.specs.declared.alloc.AllocError.{AllocError}
-use Rattle.std.specs.declared.alloc.Global.{Global}
-use Rattle.std.specs.declared.vec.Vec.{Vec}
-use Rattle.std.specs.declared.result.Result.{Result}
-use Rattle.std.specs.declared.result.Result.the-variants.{Ok, Err}
 use Rattle.std.proofs.shelf.Lists.{length-drop}
 use Rattle.script.specs.declared.answer.Answer.{Answer}
 use Rattle.script.specs.declared.answer.Answer.the-variants.{Heard, Refused, Wrong}
 use Rattle.script.specs.declared.tally.Tally.{Tally}
-use Rattle.script.specs.Lines.{Adds}
-use Rattle.script.specs.Outcomes.{One-more, tally-line}
+use Rattle.script.specs.Outcomes.{One-more}
 use Rattle.script.specs.Words.{lead, before, past, body}
-use Rattle.flatsat.specs.Plays.{Line-played, Plays, Fresh, Played}
+use Rattle.flatsat.specs.Plays.{Line-played, Plays, Fresh, Lines-played}
 
 -- how many answers are counted
 abbrev pub calls : Tally → ℕ
@@ -71,16 +63,8 @@ none-left : (rest : List ℕ) → true ≡ eqb (length rest) 0 → rest ≡ []
 none-left [] e = refl
 none-left (b ∷ bs) e = absurd (true≢false (e ∙ search needs))
 
--- no line left, and then the count
-pub printed : {script text rest so-far : List ℕ} {t u : Tally} (out : Vec ℕ Global) (r : Result (Vec ℕ Global) AllocError) → Going script text t rest so-far u → text ≡ [] → Fresh t → true ≡ eqb (length rest) 0 → so-far ≡ vec-items out → Adds out (tally-line u) r → made r (λ v. Played script (vec-items v))
-printed {script} {text} {rest} {so-far} {t} {u} out (Ok v) g none fresh some is adds =
+-- no line left
+pub all-played : {script text rest so-far : List ℕ} {t u : Tally} → Going script text t rest so-far u → text ≡ [] → Fresh t → true ≡ eqb (length rest) 0 → Lines-played script so-far u
+all-played {script} {text} {rest} {so-far} {t} {u} g none fresh some =
     let over : Plays rest so-far u so-far u = subst (λ r. Plays r so-far u so-far u) (sym (none-left rest some)) Plays.over in
-    record {
-      start = t;
-      last = u;
-      text = so-far;
-      fresh = fresh;
-      lines = subst (λ x. Plays script x t so-far u) none (g .on so-far u over);
-      whole = adds ∙ ap (λ x. x ++ tally-line u) (sym is);
-    }
-printed out (Err e) g none fresh some is adds = tt
+    (t, fresh, subst (λ x. Plays script x t so-far u) none (g .on so-far u over))

@@ -54,11 +54,10 @@ pub data Plays : List ℕ → List ℕ → Tally → List ℕ → Tally → Type
 abbrev pub Fresh : Tally → Type 0
 Fresh t = (t .ok ≡ 0) × (t .refused ≡ 0) × (t .wrong ≡ 0)
 
+-- All lines of a script are played, with nothing told before them.
+abbrev pub Lines-played : List ℕ → List ℕ → Tally → Type 0
+Lines-played script text t = (start : Tally) × Fresh start × Plays script [] start text t
+
 -- What a whole script prints: its answers, and then the count of them.
-pub record Played (script printed : List ℕ) : Type 0 where
-  pub start : Tally
-  pub last : Tally
-  pub text : List ℕ
-  pub fresh : Fresh start
-  pub lines : Plays script [] start text last
-  pub whole : printed ≡ text ++ tally-line last
+abbrev pub Played : List ℕ → List ℕ → Type 0
+Played script printed = (text : List ℕ) × (t : Tally) × Lines-played script text t × (printed ≡ text ++ tally-line t)

@@ -6,7 +6,7 @@ ghost use Prim.Native.Nat.{_+_, _^_, _<_};
 ghost use Rattle.std.specs.Of.Vec.{vec-items};
 ghost use Rattle.std.specs.Vec.{made};
 ghost use Rattle.script.specs.Words.{body};
-ghost use Rattle.flatsat.specs.Plays.{Answers, Told, Line-played, Played};
+ghost use Rattle.flatsat.specs.Plays.{Answers, Told, Line-played, Lines-played, Played};
 use codes::FaultRefusal;
 use codes::Refusal;
 use reader::read::read;
@@ -77,17 +77,28 @@ impl Page {
     }
 }
 
-// The whole text that a script answers.
-pub fn play(heap: Global, script: &[u8]) -> Result<Vec<u8>, AllocError>
-    ensures { λ r. ⌜ made r (λ v. Played (now (script .entry)) (vec-items v)) ⌝ }
+// Plays the lines of a script, the first as the first.
+fn lines(heap: Global, script: &[u8]) -> Result<Page, AllocError>
+    ensures { λ r. ⌜ made r (λ p. Lines-played (now (script .entry)) (vec-items (p .text)) (p .tally)) ⌝ }
 {
-    let mut page = Page { text: Vec::new(heap), tally: Tally::new() };
+    let mut page = Page {
+        text: Vec::new(heap),
+        tally: Tally::new(),
+    };
     let mut rest = script;
     while !rest.is_empty() {
         let (line, after) = next_line(rest);
         page = page.line(heap, line)?;
         rest = after;
     }
-    let Page { text, tally } = page;
-    tally_line(text, tally)
+    Ok(page)
+}
+
+// The whole text that a script answers.
+pub fn play(heap: Global, script: &[u8]) -> Result<Vec<u8>, AllocError>
+    ensures { λ r. ⌜ made r (λ v. Played (now (script .entry)) (vec-items v)) ⌝ }
+{
+    let page = lines(heap, script)?;
+    let printed = tally_line(page.text, page.tally)?;
+    Ok(printed)
 }

@@ -1,4 +1,5 @@
--- What fields that may stand first tell of their values. Assumes nothing.
+-- What fields that may stand first tell of their values.
+-- A payload after its head, and a message known by its kind.
 use mathlib.Core.Path.{_≡_, refl, sym, ap, subst, _∙_}
 use mathlib.Core.Bool.{Bool, true, false}
 use mathlib.Core.Logic.{⊎-elim}
@@ -28,7 +29,7 @@ use Rattle.layout.proofs.Seals.{lone-below, lone-above}
 use Rattle.layout.proofs.Fronts.{loaded, whole}
 
 -- what follows kind and view
-body-of : {k v : ℕ} {is : List Item} {l : Grammar} → After message (opening k v is) l → After (body k) is l
+pub body-of : {k v : ℕ} {is : List Item} {l : Grammar} → After message (opening k v is) l → After (body k) is l
 body-of a = un-num (un-num a .2) .2
 
 pub lone-told : (b : ℕ) → lone (only b) ≡ ltb b 8

@@ -1,4 +1,5 @@
--- Head and middle together: nothing, a payload, a tag or replies after the head. Assumes nothing.
+-- Head and middle together: nothing, a payload, a tag or replies after the head.
+-- Each middle spells its fields, and the message goes on after it.
 use mathlib.Core.Path.{_≡_, refl, sym, ap, subst, _∙_}
 use mathlib.Core.Bool.{Bool, true, false, _&&_}
 use mathlib.Core.List.{List, [], _∷_, _++_}

@@ -1,4 +1,5 @@
--- Fields side by side in one number. Assumes nothing.
+-- Fields side by side in one number.
+-- A head with one more field has the bits of both, whatever stood before.
 use mathlib.Core.Path.{_≡_, refl, sym, ap, _∙_, subst}
 use mathlib.Core.Bool.{Bool, true, false, _&&_}
 use mathlib.Core.List.{List, [], _∷_, _++_}
@@ -37,7 +38,7 @@ beside-below a w x v h =
 
 -- a head with one more field
 pub held : (g h : Head) (w v : ℕ) (a : Bool) → h .number ≡ g .number * 2 ^ w + v % 2 ^ w → h .width ≡ g .width + w → h .allowed ≡ ((g .allowed && a) && ltb v (2 ^ w))
-  → (is : List Item) (ok : ℕ → Bool) (k : ℕ → Grammar) → ok v ≡ a → Holds g is (Grammar.field w ok k) → Holds h (is ++ Item.num w v ∷ []) (k v)
+    → (is : List Item) (ok : ℕ → Bool) (k : ℕ → Grammar) → ok v ≡ a → Holds g is (Grammar.field w ok k) → Holds h (is ++ Item.num w v ∷ []) (k v)
 held g h w v a n d b is ok k o p = record {
   form = (λ i. bitsOf (d i) (n i)) ∙ beside (g .width) w (g .number) v ∙ (λ i. p .form i ++ sym (spell-num w v) i) ∙ sym (spell-append is (Item.num w v ∷ []));
   goes = subst (λ x. Goes x message (is ++ Item.num w v ∷ []) (k v)) (sym b) (goes-on message is (g .allowed) a (ltb v (2 ^ w)) w v ok k o refl (p .goes));

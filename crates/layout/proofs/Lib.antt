@@ -1,5 +1,5 @@
--- The lemmas of layouts.
--- Rests: what may stand first and what comes after it. Joins: fields side by side in one number.
+-- The lemmas of layouts, for the layers above.
+-- Rests: what may stand first. Joins, Packed: bits. Stored, Replies: rows. Fronts, Seals, Allowed: messages. Long: their lengths.
 pub mod Rests
 pub mod Joins
 pub mod Stored
@@ -8,3 +8,4 @@ pub mod Packed
 pub mod Seals
 pub mod Fronts
 pub mod Allowed
+pub mod Long

@@ -1,4 +1,5 @@
--- Bytes and their bits: bytes whose bits are the written form of items are those items packed. Assumes nothing.
+-- Bytes and their bits.
+-- Bytes whose bits are the written form of items are those items packed; a head's bytes have its bits.
 use mathlib.Core.Path.{_≡_, refl, sym, ap, subst, _∙_}
 use mathlib.Core.List.{List, [], _∷_, _++_}
 use Prim.Native.Nat.{ℕ, _+_, _*_, _/_, _%_, _^_, _<_, _≤_}

@@ -1,4 +1,5 @@
--- Replies by rising board number: they are what is heard or stored, and stand one after another. Assumes nothing.
+-- Replies by rising board number: they are what is heard or stored, and stand one after another.
+-- Board by board they may stand, or one of them, or their number, may not.
 use mathlib.Core.Path.{_≡_, refl, sym, ap, subst, _∙_}
 use mathlib.Core.Bool.{Bool, true, false, cond, _&&_}
 use mathlib.Core.Logic.{_⊎_, inl, inr, ⊎-elim}
@@ -56,8 +57,8 @@ listed-at P f b zero h e = absurd (omega arith)
 listed-at P f b (suc n) h e =
     ⊎-elim (λ same. ([], ap (λ m. listed P f (suc m)) (sym same) ∙ listed-in P f b e))
     (λ other. let r = listed-at P f b n (omega arith) e in
-      let more = cond (P n) (f n ∷ []) [] in
-      (r .0 ++ more, ap (λ l. l ++ more) (r .1) ∙ append-assoc (listed P f b) (f b ∷ r .0) more)) (cases-eq b n)
+    let more = cond (P n) (f n ∷ []) [] in
+    (r .0 ++ more, ap (λ l. l ++ more) (r .1) ∙ append-assoc (listed P f b) (f b ∷ r .0) more)) (cases-eq b n)
 
 -- what is heard, by place
 in-place : (b : Bool) (xs : List ℕ) (t : ℕ) (l : List Reply) → replies-in t xs ≡ l → replies-in (t + one b) xs ≡ l ++ cond b (reply-at xs (9 * t) ∷ []) []
@@ -93,7 +94,7 @@ one-reply e p t k =
     After.then-num (omega arith) (q .0) (After.then-num (omega arith) refl (After.then-num (omega (arith, c, most-small (e .entry .earlier))) (q .1) (After.then-raw (t .0) (t .1) After.start)))
 
 -- and what a reply that may stand tells
-reply-tells : {e : Reply} {is : List Item} {k : ℕ → Grammar} {l : Grammar} → After (entered k) (reply-values e is) l → (proper (e .entry) ≡ true) × Tagged e × After (k (e .entry .earlier)) is l
+pub reply-tells : {e : Reply} {is : List Item} {k : ℕ → Grammar} {l : Grammar} → After (entered k) (reply-values e is) l → (proper (e .entry) ≡ true) × Tagged e × After (k (e .entry .earlier)) is l
 reply-tells a =
     let r = un-num a in
     let z = un-num (r .2) in
@@ -114,9 +115,9 @@ next {s} {es} {b} {top} g m p t =
     let more : is ++ e ∷ [] ≡ listed (member s) (reply-of s es) (b + 1) = sym (ap (listed (member s) (reply-of s es)) (add-one b) ∙ listed-in (member s) (reply-of s es) b m) in
     record {
       goes = λ k.
-        subst (λ l. After (entries (size s) 0 k) (replies-values l) (entries (size s - place s (b + 1)) (max top (e .entry .earlier)) k)) more
-        (subst (λ l. After (entries (size s) 0 k) l (entries (size s - place s (b + 1)) (max top (e .entry .earlier)) k)) (sym (values-append is (e ∷ [])))
-        (join (subst (λ n. After (entries (size s) 0 k) (replies-values is) (entries n top k)) left (g .goes k)) (one-reply e p t _)));
+          subst (λ l. After (entries (size s) 0 k) (replies-values l) (entries (size s - place s (b + 1)) (max top (e .entry .earlier)) k)) more
+          (subst (λ l. After (entries (size s) 0 k) l (entries (size s - place s (b + 1)) (max top (e .entry .earlier)) k)) (sym (values-append is (e ∷ [])))
+          (join (subst (λ n. After (entries (size s) 0 k) (replies-values is) (entries n top k)) left (g .goes k)) (one-reply e p t _)));
       tags = subst (All Tagged) more (all-push Tagged is e (g .tags) t);
     }
 
@@ -126,7 +127,7 @@ skip {s} {es} {b} {top} g m =
     let here : place s b ≡ place s (b + 1) = omega (arith, place-next s b, ap one m) in
     record {
       goes = λ k. let P : List Reply → ℕ → Type 0 = λ l n. After (entries (size s) 0 k) (replies-values l) (entries (size s - n) top k) in
-        subst (λ n. P (listed (member s) (reply-of s es) (b + 1)) n) here (subst (λ l. P l (place s b)) same (g .goes k));
+          subst (λ n. P (listed (member s) (reply-of s es) (b + 1)) n) here (subst (λ l. P l (place s b)) same (g .goes k));
       tags = subst (All Tagged) same (g .tags);
     }
 
@@ -169,7 +170,7 @@ finish {s} {es} {top} h g =
     let none : size s - place s 8 ≡ 0 = omega (arith, place-last s) in
     record {
       goes = λ k. let P : List Reply → ℕ → Type 0 = λ l n. After (entries (size s) 0 k) (replies-values l) (entries n top k) in
-        subst (λ n. P (replies-of s es) n) none (subst (λ l. P l (size s - place s 8)) all (g .goes k));
+          subst (λ n. P (replies-of s es) n) none (subst (λ l. P l (size s - place s 8)) all (g .goes k));
       tags = subst (All Tagged) all (g .tags);
       even = h;
     }
@@ -182,7 +183,7 @@ improper {s} {es} {b} {top} h g l m e = λ p a after.
     let r = listed-at (member s) (reply-of s es) b 8 l m in
     let js = reply-of s es b ∷ r .0 in
     let all : replies-values (replies-of s es) ++ set-values p a ≡ replies-values is ++ (replies-values js ++ set-values p a) =
-      ap (λ x. replies-values x ++ set-values p a) (replies-listed s es h ∙ r .1) ∙ ap (λ x. x ++ set-values p a) (values-append is js) ∙ append-assoc (replies-values is) (replies-values js) (set-values p a) in
+    ap (λ x. replies-values x ++ set-values p a) (replies-listed s es h ∙ r .1) ∙ ap (λ x. x ++ set-values p a) (values-append is js) ∙ append-assoc (replies-values is) (replies-values js) (set-values p a) in
     let k : ℕ → Grammar = λ t. proof t Grammar.done in
     let left : size s - place s b ≡ suc (size s - place s b - 1) = omega (arith, place-below s b m) in
     let here = subst (λ n. After (entries (size s) 0 k) (replies-values is) (entries n top k)) left (g .goes k) in
@@ -190,15 +191,15 @@ improper {s} {es} {b} {top} h g l m e = λ p a after.
     clash (reply-tells rest .0) e
 
 -- replies before a proof are as many as there are boards, each with its tag
-counted : (n top : ℕ) (es : List Reply) (p : ℕ) (a : List ℕ) {l : Grammar} → After (entries n top (λ t. proof t Grammar.done)) (replies-values es ++ set-values p a) l → (length es ≡ n) × All Tagged es
+pub counted : (n top : ℕ) (es : List Reply) (p : ℕ) (a : List ℕ) {l : Grammar} → After (entries n top (λ t. proof t Grammar.done)) (replies-values es ++ set-values p a) l → (length es ≡ n) × All Tagged es × (length a ≡ 8 * size p)
 unfolding entries replies-values
-counted zero top [] p a x = (refl, tt)
+counted zero top [] p a x = (refl, tt, un-raw (un-num x .2) .0)
 counted zero top (e ∷ es) p a x = absurd (omega (arith, un-wide x))
 counted (suc n) top [] p a x = absurd (omega (arith, un-wide x))
 counted (suc n) top (e ∷ es) p a x =
     let r = reply-tells x in
     let q = counted n (max top (e .entry .earlier)) es p a (r .2) in
-    (omega (arith, q .0), (r .1, q .1))
+    (omega (arith, q .0), (r .1, q .1), q .2)
 
 in-long : (n : ℕ) (xs : List ℕ) → length (replies-in n xs) ≡ n
 unfolding replies-in

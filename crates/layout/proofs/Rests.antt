@@ -1,4 +1,5 @@
--- What may stand first in a grammar, in two parts: cut and joined. Assumes nothing.
+-- What may stand first in a grammar, in two parts: cut and joined.
+-- Each step of a message, read off what may stand, or added to it, allowed or not.
 use mathlib.Core.Path.{_≡_, refl, sym, ap, _∙_, subst}
 use mathlib.Core.Bool.{Bool, true, false, _&&_}
 use mathlib.Core.Logic.{_⊎_, inl, inr}

@@ -1,4 +1,5 @@
--- A set and its tags at the end of a message. Assumes nothing.
+-- A set and its tags at the end of a message.
+-- With them the fields are a message's, if tags and set are as the format wants; else no message's.
 use mathlib.Core.Path.{_≡_, refl, sym, ap, subst, _∙_}
 use mathlib.Core.Bool.{Bool, true, false}
 use mathlib.Core.Logic.{⊎-elim}
@@ -44,13 +45,13 @@ barred {is = is} {g = g} f e js a =
     subst (λ b. Goes b message is g) e (f .goes) (r .0) (r .1)
 
 pub lays : (h : Head) (m : Middle) (s : Set) (t : Tags) (is : List Item) (ok : ℕ → Bool) (n : ℕ → ℕ) → Fronts h m is (Grammar.field 8 ok (λ x. Grammar.part (n x) (λ _. Grammar.done))) → h .allowed ≡ true → s .bits < 256 → ok (s .bits) ≡ true → n (s .bits) ≡ 8 * size (s .bits) → length (tags-of (s .bits) t) ≡ 8 * size (s .bits) → Bytes (tags-of (s .bits) t)
-  → Lays (is ++ set-values (s .bits) (tags-of (s .bits) t)) (record { head = h; middle = m; set = s; tags = t })
+    → Lays (is ++ set-values (s .bits) (tags-of (s .bits) t)) (record { head = h; middle = m; set = s; tags = t })
 lays h m s t is ok n f e low o k l b =
     let ts = tags-of (s .bits) t in
     let hs = head-bytes h in
     let ms = middle-bytes m in
     let form : bits (hs ++ (ms ++ (s .bits ∷ ts))) ≡ spell (is ++ set-values (s .bits) ts) =
-      ap bits (sym (append-assoc hs ms (s .bits ∷ ts))) ∙ bits-append (hs ++ ms) (s .bits ∷ ts) ∙ (λ i. f .form i ++ sealing (s .bits) ts i) ∙ sym (spell-append is (set-values (s .bits) ts)) in
+    ap bits (sym (append-assoc hs ms (s .bits ∷ ts))) ∙ bits-append (hs ++ ms) (s .bits ∷ ts) ∙ (λ i. f .form i ++ sealing (s .bits) ts i) ∙ sym (spell-append is (set-values (s .bits) ts)) in
     let fit : Bytes (hs ++ (ms ++ (s .bits ∷ ts))) = all-append _ hs (ms ++ (s .bits ∷ ts)) (head-fit h) (all-append _ ms (s .bits ∷ ts) (f .fit) (low, b)) in
     record {
       allowed = join (allowed f e) (After.then-num low o (After.then-raw (l ∙ sym k) b After.start));

@@ -1,4 +1,5 @@
--- Tags and replies by rising board number: how many, how long, and that they are bytes. Assumes nothing.
+-- Tags by rising board number: how many bytes they are, and that they are bytes.
+-- Laws of what is listed and joined, for any row, then of stored tags.
 use mathlib.Core.Path.{_≡_, refl, sym, ap, subst, _∙_}
 use mathlib.Core.Bool.{Bool, true, false, cond}
 use mathlib.Core.List.{List, [], _∷_, _++_}

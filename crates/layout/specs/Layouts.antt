@@ -37,6 +37,7 @@ unfoldable pub replies-bytes : List Reply → List ℕ
 replies-bytes [] = []
 replies-bytes (e ∷ es) = entry-byte (e .entry) ∷ (e .tag ++ replies-bytes es)
 
+-- The bytes of what stands between the head and the last set.
 abbrev pub middle-bytes : Middle → List ℕ
 middle-bytes Nothing = []
 middle-bytes (Payload p) = p .now

@@ -49,12 +49,22 @@ pub fn reply<'a>(set: Set, entries: Entries<'a>, board: u8) -> Option<(Entry, Ta
                 return None;
             }
             let b = bytes[at];
-            Some((Entry { earlier: b / 16, change: b % 8 }, Tags::Heard(&bytes[at + 1..at + 9])))
+            Some((
+                Entry {
+                    earlier: b / 16,
+                    change: b % 8,
+                },
+                Tags::Heard(&bytes[at + 1..at + 9]),
+            ))
         }
-        Entries::Stored { entries, tags } => Some((entries[board as usize], Tags::Fresh(tags[board as usize]))),
+        Entries::Stored { entries, tags } => Some((
+            entries[board as usize],
+            Tags::Fresh(tags[board as usize]),
+        )),
     }
 }
 
+// Whether the format allows the entry.
 fn allowed(e: Entry) -> bool
     ensures { λ r. ⌜ r ≡ proper e ⌝ }
 {

@@ -33,6 +33,19 @@ impl Head {
 pub(crate) fn opening(kind: u8, view: u8) -> Head
     ensures { λ r. ⌜ Opened kind view r ⌝ }
 {
-    let nothing = Head { number: 0, width: 0, allowed: true };
-    nothing.with(4, kind as usize, 1, 13).with(8, view as usize, 1, 64)
+    let nothing = Head {
+        number: 0,
+        width: 0,
+        allowed: true,
+    };
+    nothing
+        .with(4, kind as usize, 1, 13)
+        .field(8, view as usize, is_view(view))
+}
+
+// A view's number is 1 to 64.
+fn is_view(view: u8) -> bool
+    ensures { λ r. ⌜ r ≡ from-to 1 64 view ⌝ }
+{
+    1 <= view && view <= 64
 }

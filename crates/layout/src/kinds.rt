@@ -13,14 +13,18 @@ use wire::message::Sort;
 pub(crate) fn noted(kind: u8, view: u8, change: u8) -> Head
     ensures { λ r. ⌜ Noted kind view change r ⌝ }
 {
-    opening(kind, view).with(1, 0, 0, 0).with(3, change as usize, 0, 7)
+    opening(kind, view)
+        .with(1, 0, 0, 0)
+        .with(3, change as usize, 0, 7)
 }
 
 // Kinds 3 to 6: a rank and a change.
 pub(crate) fn graded(kind: u8, view: u8, rank: u8, change: u8) -> Head
     ensures { λ r. ⌜ Graded kind view rank change r ⌝ }
 {
-    ranked(kind, view, rank).with(5, 0, 0, 0).with(3, change as usize, 0, 7)
+    ranked(kind, view, rank)
+        .with(5, 0, 0, 0)
+        .with(3, change as usize, 0, 7)
 }
 
 // Kinds 7 to 10: a rank.

@@ -13,28 +13,66 @@ use boards::Set;
 use wire::message::Tags;
 
 // Any set.
-pub(crate) fn sealed<'a>(head: Head, middle: Middle<'a>, set: Set, tags: Tags<'a>) -> Option<Layout<'a>>
+pub(crate) fn sealed<'a>(
+    head: Head,
+    middle: Middle<'a>,
+    set: Set,
+    tags: Tags<'a>,
+) -> Option<Layout<'a>>
     ensures { λ r. ⌜ Sealed head (middle .entry) set (tags .entry) r ⌝ }
 {
-    if fits(set, tags) & head.allowed { Some(Layout { head, middle, set, tags }) } else { None }
+    if fits(set, tags) & head.allowed {
+        Some(Layout {
+            head,
+            middle,
+            set,
+            tags,
+        })
+    } else {
+        None
+    }
 }
 
 // Just the speaker.
-pub(crate) fn alone<'a>(head: Head, middle: Middle<'a>, speaker: u8, tag: Tags<'a>) -> Option<Layout<'a>>
+pub(crate) fn alone<'a>(
+    head: Head,
+    middle: Middle<'a>,
+    speaker: u8,
+    tag: Tags<'a>,
+) -> Option<Layout<'a>>
     ensures { λ r. ⌜ Alone head (middle .entry) speaker (tag .entry) r ⌝ }
 {
-    if speaker < 8 { sealed(head, middle, Set::only(speaker), tag) } else { None }
+    if speaker < 8 {
+        sealed(head, middle, Set::only(speaker), tag)
+    } else {
+        None
+    }
 }
 
 // A proof, which has boards exactly if there is an earlier rank.
-pub(crate) fn proven<'a>(head: Head, middle: Middle<'a>, top: u8, proof: Set, acks: Tags<'a>) -> Option<Layout<'a>>
+pub(crate) fn proven<'a>(
+    head: Head,
+    middle: Middle<'a>,
+    top: u8,
+    proof: Set,
+    acks: Tags<'a>,
+) -> Option<Layout<'a>>
     ensures { λ r. ⌜ Proven head (middle .entry) top proof (acks .entry) r ⌝ }
 {
-    if called_for(top, proof) { sealed(head, middle, proof, acks) } else { None }
+    if called_for(top, proof) {
+        sealed(head, middle, proof, acks)
+    } else {
+        None
+    }
 }
 
+// Whether a proof has boards as the highest earlier rank wants.
 fn called_for(top: u8, proof: Set) -> bool
     ensures { λ r. ⌜ r ≡ from-to (cond (eqb top 0) 0 1) (cond (eqb top 0) 0 255) (proof .bits) ⌝ }
 {
-    if top == 0 { proof.bits == 0 } else { proof.bits != 0 }
+    if top == 0 {
+        proof.bits == 0
+    } else {
+        proof.bits != 0
+    }
 }

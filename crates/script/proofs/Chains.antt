@@ -24,21 +24,21 @@ pub then : {a b c : Line} {xs ys : List ℕ} → Wrote a xs b → Wrote b ys c �
 then {a} {b} {c} {xs} {ys} p q =
     record {
       said = λ e.
-        let h = q .said e in
-        let k = p .said (h .0) in
-        (k .0, h .1 ∙ ap (λ l. l ++ ys) (k .1) ∙ append-assoc (held a) xs ys);
+          let h = q .said e in
+          let k = p .said (h .0) in
+          (k .0, h .1 ∙ ap (λ l. l ++ ys) (k .1) ∙ append-assoc (held a) xs ys);
       full = λ e f.
-        let all : length (xs ++ ys) ≡ length xs + length ys = length-append xs ys in
-        let Short : Type 0 = vec-cap (a .bytes) < vec-len (a .bytes) + length (xs ++ ys) in
-        let pick : (t : Bool) → b .lost ≡ t → Short =
+          let all : length (xs ++ ys) ≡ length xs + length ys = length-append xs ys in
+          let Short : Type 0 = vec-cap (a .bytes) < vec-len (a .bytes) + length (xs ++ ys) in
+          let pick : (t : Bool) → b .lost ≡ t → Short =
           λ t. elim t as (λ v. b .lost ≡ v → Short) [
-            true ↦ λ h. omega (arith, all, p .full h f)
-          | false ↦ λ h.
-              let long : vec-len (b .bytes) ≡ vec-len (a .bytes) + length xs =
+            | true ↦ λ h. omega (arith, all, p .full h f)
+            | false ↦ λ h.
+                let long : vec-len (b .bytes) ≡ vec-len (a .bytes) + length xs =
                 b .bytes .ok .0 ∙ ap length (p .said h .1) ∙ length-append (held a) xs ∙ ap (λ n. n + length xs) (sym (a .bytes .ok .0)) in
-              omega (arith, all, long, p .grows, q .full e h)
+                omega (arith, all, long, p .grows, q .full e h)
           ] in
-        pick (b .lost) refl;
+          pick (b .lost) refl;
       grows = omega (arith, p .grows, q .grows);
     }
 

@@ -18,7 +18,7 @@ module _ (P : ℕ → Bool) where
   unfolding lead
   lead-more bs i h e so =
       let here : lead P (drop i bs) ≡ suc (lead P (drop (i + 1) bs)) =
-        ap (lead P) (drop-cons bs i 0 h) ∙ ap (λ b. cond b (suc (lead P (drop (suc i) bs))) 0) e ∙ ap (λ k. suc (lead P (drop k bs))) (sym (add-one i)) in
+      ap (lead P) (drop-cons bs i 0 h) ∙ ap (λ b. cond b (suc (lead P (drop (suc i) bs))) 0) e ∙ ap (λ k. suc (lead P (drop k bs))) (sym (add-one i)) in
       omega (arith, here, so)
 
   -- one that does not

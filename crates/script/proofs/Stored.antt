@@ -19,7 +19,7 @@ unfolding listed
 map-listed g P f zero = refl
 map-listed {Y = Y} g P f (suc n) =
     let here : (b : Bool) → cond b (g (f n) ∷ []) [] ≡ map g (cond b (f n ∷ []) []) =
-      λ b. elim b as (λ v. cond v (g (f n) ∷ []) [] ≡ map g (cond v (f n ∷ []) [])) [ true ↦ refl | false ↦ refl ] in
+    λ b. elim b as (λ v. cond v (g (f n) ∷ []) [] ≡ map g (cond v (f n ∷ []) [])) [ true ↦ refl | false ↦ refl ] in
     (λ i. map-listed g P f n i ++ here (P n) i) ∙ sym (map-append g (listed P f n) (cond (P n) (f n ∷ []) []))
 
 joined-push : (xs : List (List ℕ)) (y : List ℕ) → joined (xs ++ y ∷ []) ≡ joined xs ++ y
@@ -56,9 +56,9 @@ even-push xs y h e =
     record {
       long = ap length (joined-push xs y) ∙ length-append all y ∙ omega (arith, h .long, one);
       same =
-        (λ i. tags-in (one i) (joined-push xs y i))
-        ∙ (λ i. tags-front all y (length xs) (omega (arith, h .long)) i ++ hex (tag-last all y (length xs) (h .long) e i) ∷ [])
-        ∙ ap (λ t. t ++ hex y ∷ []) (h .same) ∙ sym (map-append hex xs (y ∷ []));
+          (λ i. tags-in (one i) (joined-push xs y i))
+          ∙ (λ i. tags-front all y (length xs) (omega (arith, h .long)) i ++ hex (tag-last all y (length xs) (h .long) e i) ∷ [])
+          ∙ ap (λ t. t ++ hex y ∷ []) (h .same) ∙ sym (map-append hex xs (y ∷ []));
     }
 
 even-listed : (P : ℕ → Bool) (f : ℕ → List ℕ) → ((b : ℕ) → length (f b) ≡ 8) → (n : ℕ) → Even (listed P f n)
@@ -67,8 +67,8 @@ even-listed P f h zero = even-none
 even-listed P f h (suc n) =
     let so = even-listed P f h n in
     elim (P n) as (λ v. Even (listed P f n ++ cond v (f n ∷ []) [])) [
-      true ↦ even-push (listed P f n) (f n) so (h n)
-    | false ↦ subst Even (sym (append-nil (listed P f n))) so
+      | true ↦ even-push (listed P f n) (f n) so (h n)
+      | false ↦ subst Even (sym (append-nil (listed P f n))) so
     ]
 
 -- the tags of a set's boards, stored by board number

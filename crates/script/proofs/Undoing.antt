@@ -12,7 +12,8 @@ use lib.Seq.{drop-cons}
 use Rattle.std.specs.shelf.Lists.{All}
 use Rattle.std.proofs.shelf.Tests.{eqb-true, and-parts}
 use Rattle.std.proofs.shelf.Lists.{length-drop}
-use Rattle.boards.proofs.Members.{at-every}
+use Rattle.boards.specs.Boards.{every}
+use Rattle.boards.proofs.Chosen.{every-at}
 use Rattle.script.specs.declared.line.Line.{Line}
 use Rattle.script.specs.Lines.{Wrote}
 use Rattle.script.specs.Texts.{hex, hex-digit}
@@ -22,8 +23,9 @@ use Rattle.script.proofs.Chains.{none, then}
 
 -- a digit is read as the number that it was written for
 digit-back : (d : ℕ) → d < 16 → (hex-sign (hex-digit d) ≡ true) × (nibble (hex-digit d) ≡ d)
+unfolding every
 digit-back d h =
-    let both = at-every (λ k. hex-sign (hex-digit k) && eqb (nibble (hex-digit k)) k) 16 refl d h in
+    let both = every-at (λ k. hex-sign (hex-digit k) && eqb (nibble (hex-digit k)) k) 16 d refl h in
     let parts = and-parts (hex-sign (hex-digit d)) (eqb (nibble (hex-digit d)) d) both in
     (parts .0, eqb-true (nibble (hex-digit d)) d (parts .1))
 
@@ -36,13 +38,15 @@ undone (b ∷ bs) all =
     let high = digit-back (b / 16) (omega arith) in
     let low = digit-back (b % 16) (omega arith) in
     let front = lead hex-sign (hex bs) in
-    let byte : 16 * nibble (hex-digit (b / 16)) + nibble (hex-digit (b % 16)) ≡ b = omega (arith, high .1, low .1) in
-    (record {
-      digits =
-        ap (λ v. cond v (suc (cond (hex-sign (hex-digit (b % 16))) (suc front) 0)) 0) (high .0)
-        ∙ ap (λ v. suc (cond v (suc front) 0)) (low .0) ∙ ap (λ n. suc (suc n)) (rest .0 .digits);
-      paired = omega (arith, rest .0 .paired);
-    }, λ i. byte i ∷ rest .1 i)
+    let byte : 16 * nibble (hex-digit (b / 16)) + nibble (hex-digit (b % 16)) ≡ b = omega (arith, high .1, low .1) in (
+      record {
+        digits =
+            ap (λ v. cond v (suc (cond (hex-sign (hex-digit (b % 16))) (suc front) 0)) 0) (high .0)
+            ∙ ap (λ v. suc (cond v (suc front) 0)) (low .0) ∙ ap (λ n. suc (suc n)) (rest .0 .digits);
+        paired = omega (arith, rest .0 .paired);
+      },
+      λ i. byte i ∷ rest .1 i,
+    )
 
 -- line b has what the first n digits stand for
 pub record Read-so (a : Line) (ds : List ℕ) (n : ℕ) (b : Line) : Type 0 where
@@ -60,10 +64,10 @@ read-more {ds = ds} {x} {y} n so h ex ey w =
     let rest = drop (n + 2) ds in
     let here : drop n ds ≡ getD ds n 0 ∷ drop (n + 1) ds = drop-cons ds n 0 (omega arith) ∙ ap (λ k. getD ds n 0 ∷ drop k ds) (sym (add-one n)) in
     let next : drop (n + 1) ds ≡ getD ds (n + 1) 0 ∷ rest =
-      let up : suc (n + 1) ≡ n + 2 = omega arith in
-      drop-cons ds (n + 1) 0 h ∙ ap (λ k. getD ds (n + 1) 0 ∷ drop k ds) up in
+    let up : suc (n + 1) ≡ n + 2 = omega arith in
+    drop-cons ds (n + 1) 0 h ∙ ap (λ k. getD ds (n + 1) 0 ∷ drop k ds) up in
     let two : read-hex (drop n ds) ≡ (16 * x + y) ∷ read-hex rest =
-      ap read-hex (here ∙ ap (λ t. getD ds n 0 ∷ t) next) ∙ sym (λ i. (16 * ex i + ey i) ∷ read-hex rest) in
+    ap read-hex (here ∙ ap (λ t. getD ds n 0 ∷ t) next) ∙ sym (λ i. (16 * ex i + ey i) ∷ read-hex rest) in
     record {
       text = so .text ++ (16 * x + y) ∷ [];
       wrote = then (so .wrote) w;

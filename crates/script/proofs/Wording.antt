@@ -65,12 +65,12 @@ ended [] z = refl
 ended (b ∷ bs) z =
     by (drop (gap (b ∷ bs)) (b ∷ bs) ≡ []) b
     (λ e.
-      let g = gap-blank b bs e in
-      ap (λ n. drop n (b ∷ bs)) g ∙ ended bs (sym (ap (λ n. run (drop n (b ∷ bs))) g) ∙ z))
+    let g = gap-blank b bs e in
+    ap (λ n. drop n (b ∷ bs)) g ∙ ended bs (sym (ap (λ n. run (drop n (b ∷ bs))) g) ∙ z))
     (λ e.
-      let g = gap-solid b bs e in
-      let k : run (b ∷ bs) ≡ 0 = sym (ap (λ n. run (drop n (b ∷ bs))) g) ∙ z in
-      absurd (omega (arith, k, run-solid b bs e)))
+    let g = gap-solid b bs e in
+    let k : run (b ∷ bs) ≡ 0 = sym (ap (λ n. run (drop n (b ∷ bs))) g) ∙ z in
+    absurd (omega (arith, k, run-solid b bs e)))
 
 pub no-word : (bs : List ℕ) → run (drop (gap bs) bs) ≡ 0 → words bs ≡ []
 unfolding pieces kept words
@@ -88,20 +88,20 @@ front [] = record { rest = []; cut = refl; left = refl }
 front (b ∷ bs) =
     by (Front (b ∷ bs)) b
     (λ e.
-      let r = run-blank b bs e in
-      record {
-        rest = pieces bs;
-        cut = pieces-blank b bs e ∙ sym (ap (λ n. take n (b ∷ bs) ∷ pieces bs) r);
-        left = sym (words-blank b bs e) ∙ sym (ap (λ n. words (drop n (b ∷ bs))) r);
-      })
+    let r = run-blank b bs e in
+    record {
+      rest = pieces bs;
+      cut = pieces-blank b bs e ∙ sym (ap (λ n. take n (b ∷ bs) ∷ pieces bs) r);
+      left = sym (words-blank b bs e) ∙ sym (ap (λ n. words (drop n (b ∷ bs))) r);
+    })
     (λ e.
-      let r = run-solid b bs e in
-      let f = front bs in
-      record {
-        rest = f .rest;
-        cut = pieces-solid b bs e ∙ ap (onto b) (f .cut) ∙ sym (ap (λ n. take n (b ∷ bs) ∷ f .rest) r);
-        left = f .left ∙ sym (ap (λ n. words (drop n (b ∷ bs))) r);
-      })
+    let r = run-solid b bs e in
+    let f = front bs in
+    record {
+      rest = f .rest;
+      cut = pieces-solid b bs e ∙ ap (onto b) (f .cut) ∙ sym (ap (λ n. take n (b ∷ bs) ∷ f .rest) r);
+      left = f .left ∙ sym (ap (λ n. words (drop n (b ∷ bs))) r);
+    })
 
 kept-some : (p : List ℕ) (ps : List (List ℕ)) → 0 < length p → kept (p ∷ ps) ≡ p ∷ kept ps
 unfolding kept

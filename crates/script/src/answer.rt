@@ -1,9 +1,8 @@
 // Answers as lines: a message that was heard, a refusal, or what is wrong with the line of the script.
 // The texts: specs/Outcomes.antt.
 ghost use mathlib.Core.Path.{_≡_};
-ghost use Prim.Native.Nat.{_+_};
 ghost use Rattle.script.specs.Lines.{Wrote, Adds};
-ghost use Rattle.script.specs.Outcomes.{reason-text, refusal-text, answer-text, answer-line, tally-line, Counted};
+ghost use Rattle.script.specs.Outcomes.{reason-text, refusal-text, answer-text, answer-line, tally-line};
 use crate::line::Line;
 use crate::tally::Tally;
 use codes::Refusal;
@@ -49,9 +48,14 @@ impl Line {
     fn refusal(self, refusal: Refusal) -> Line
         ensures { λ r. ⌜ Wrote self (refusal-text refusal) r ⌝ }
     {
-        let line = self.decimal(refusal.number() as u64).byte(b' ').text(refusal.name());
+        let line = self.decimal(refusal.number() as u64)
+            .byte(b' ')
+            .text(refusal.name());
         match refusal.fault() {
-            Some(fault) => line.byte(b' ').text(layer_name(fault.layer)).byte(b' ').decimal(fault.place as u64),
+            Some(fault) => line.byte(b' ')
+                .text(layer_name(fault.layer))
+                .byte(b' ')
+                .decimal(fault.place as u64),
             None => line,
         }
     }
@@ -101,35 +105,4 @@ pub fn tally_line(out: Vec<u8>, tally: Tally) -> Result<Vec<u8>, AllocError>
     ensures { λ r. ⌜ Adds out (tally-line tally) r ⌝ }
 {
     Line::on(out).tallied(tally).taken()
-}
-
-impl Tally {
-    // No call yet.
-    pub fn new() -> Tally
-        ensures { λ r. ⌜ (r .ok ≡ 0) × (r .refused ≡ 0) × (r .wrong ≡ 0) ⌝ }
-    {
-        Tally { ok: 0, refused: 0, wrong: 0 }
-    }
-
-    // How many calls there were.
-    pub fn calls(self) -> u64
-        ensures { λ r. ⌜ r ≡ self .ok + self .refused + self .wrong ⌝ }
-    {
-        self.ok + self.refused + self.wrong
-    }
-
-    // One more call with this answer; none where the count is at the end of its numbers.
-    pub fn count(self, answer: Answer<'_>) -> Option<Tally>
-        ensures { λ r. ⌜ Counted self (answer .entry) r ⌝ }
-    {
-        if self.calls() == u64::MAX {
-            return None;
-        }
-        let Tally { ok, refused, wrong } = self;
-        Some(match answer {
-            Answer::Heard(_) => Tally { ok: ok + 1, refused, wrong },
-            Answer::Refused(_) => Tally { ok, refused: refused + 1, wrong },
-            Answer::Wrong(_) => Tally { ok, refused, wrong: wrong + 1 },
-        })
-    }
 }

@@ -27,7 +27,11 @@ pub(crate) enum Verb {
 fn named(word: &[u8]) -> Option<Verb>
     ensures { λ r. ⌜ Named (now (word .entry)) r ⌝ }
 {
-    if word == b"read" { Some(Verb::Read) } else { None }
+    if word == b"read" {
+        Some(Verb::Read)
+    } else {
+        None
+    }
 }
 
 // The one word there must be.

@@ -2,6 +2,7 @@
 // Format: docs/SCRIPT.md. What each text is, byte for byte, is said in specs/.
 pub mod answer;
 pub mod call;
+mod count;
 pub mod hex;
 mod line;
 mod lists;

@@ -37,14 +37,20 @@ impl Listing {
     pub(crate) fn number(self, n: u8) -> Listing
         ensures { λ r. ⌜ Added self (decimal n) r ⌝ }
     {
-        Listing { line: self.comma().decimal(n as u64), some: true }
+        Listing {
+            line: self.comma().decimal(n as u64),
+            some: true,
+        }
     }
 
     // One more item, bytes in hexadecimal.
     pub(crate) fn hex(self, bytes: &[u8]) -> Listing
         ensures { λ r. ⌜ Added self (hex (now (bytes .entry))) r ⌝ }
     {
-        Listing { line: self.comma().hex(bytes), some: true }
+        Listing {
+            line: self.comma().hex(bytes),
+            some: true,
+        }
     }
 
     // One more item, a tag in hexadecimal.
@@ -58,7 +64,10 @@ impl Listing {
     pub(crate) fn entry(self, entry: Entry) -> Listing
         ensures { λ r. ⌜ Added self (entry-text entry) r ⌝ }
     {
-        Listing { line: self.comma().entry(entry), some: true }
+        Listing {
+            line: self.comma().entry(entry),
+            some: true,
+        }
     }
 
     // The line with the list, a dash if nothing was in it.
@@ -78,7 +87,9 @@ impl Line {
         if entry.earlier == 0 {
             return self.text("none");
         }
-        self.decimal(entry.earlier as u64).byte(b':').decimal(entry.change as u64)
+        self.decimal(entry.earlier as u64)
+            .byte(b':')
+            .decimal(entry.change as u64)
     }
 
     // The boards of a set, by rising number.

@@ -22,7 +22,11 @@ impl Line {
         ensures { λ r. ⌜ Wrote self (decimal n) r ⌝ }
     {
         let last = 48 + (n % 10) as u8;
-        if n < 10 { self.byte(last) } else { self.decimal(n / 10).byte(last) }
+        if n < 10 {
+            self.byte(last)
+        } else {
+            self.decimal(n / 10).byte(last)
+        }
     }
 
     // Bytes in hexadecimal.
@@ -62,6 +66,10 @@ impl Line {
         ensures { λ r. ⌜ Wrote self (payload-text (now (bytes .entry))) r ⌝ }
     {
         let line = self.name("len").decimal(bytes.len() as u64).name("payload");
-        if bytes.is_empty() { line.byte(b'-') } else { line.hex(bytes) }
+        if bytes.is_empty() {
+            line.byte(b'-')
+        } else {
+            line.hex(bytes)
+        }
     }
 }

@@ -14,5 +14,9 @@ pub(crate) fn first(bytes: &[u8], n: usize) -> &[u8]
 pub(crate) fn after(bytes: &[u8], n: usize) -> &[u8]
     ensures { λ r. ⌜ now r ≡ drop n (now (bytes .entry)) ⌝ }
 {
-    if n < bytes.len() { &bytes[n..] } else { &bytes[0..0] }
+    if n < bytes.len() {
+        &bytes[n..]
+    } else {
+        &bytes[0..0]
+    }
 }

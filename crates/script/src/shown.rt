@@ -64,7 +64,10 @@ impl Line {
     fn reply(self, speaker: u8, entry: Entry, tag: Tags<'_>) -> Line
         ensures { λ r. ⌜ Wrote self (reply-text speaker (reply-of entry (tags-of (only speaker) (tag .entry)))) r ⌝ }
     {
-        self.number("from", speaker).name("entry").entry(entry).own_tag(speaker, tag)
+        self.number("from", speaker)
+            .name("entry")
+            .entry(entry)
+            .own_tag(speaker, tag)
     }
 
     // A set and the tags of its boards.
@@ -78,14 +81,22 @@ impl Line {
     fn proof(self, set: Set, acks: Tags<'_>) -> Line
         ensures { λ r. ⌜ Wrote self (proof-text (set .bits) (tags-of (set .bits) (acks .entry))) r ⌝ }
     {
-        self.name("proof").boards(set).name("prooftags").tags(set, acks)
+        self.name("proof")
+            .boards(set)
+            .name("prooftags")
+            .tags(set, acks)
     }
 
     // A set with the entries of its boards and their tags.
     fn replies(self, set: Set, entries: Entries<'_>) -> Line
         ensures { λ r. ⌜ Wrote self (replies-text (set .bits) (replies-of (set .bits) (entries .entry))) r ⌝ }
     {
-        self.name("set").boards(set).name("entries").entries(set, entries).name("tags").entry_tags(set, entries)
+        self.name("set")
+            .boards(set)
+            .name("entries")
+            .entries(set, entries)
+            .name("tags")
+            .entry_tags(set, entries)
     }
 
     // What a sender's message carries.
@@ -103,19 +114,105 @@ impl Line {
         ensures { λ r. ⌜ Wrote self (shown (meaning (message .entry))) r ⌝ }
     {
         match message {
-            Message::Notify { view, change, speaker, tag } => self.opening("notify", view).number("change", change).spoken(speaker, tag),
-            Message::Suggest { view, change, set, tags } => self.opening("suggest", view).number("change", change).gathered(set, tags),
-            Message::Ack { view, rank, change, speaker, tag } => self.graded("ack", view, rank, change).spoken(speaker, tag),
-            Message::Proposal { view, rank, change, set, tags } => self.graded("proposal", view, rank, change).gathered(set, tags),
-            Message::Ready { view, rank, change, speaker, tag } => self.graded("ready", view, rank, change).spoken(speaker, tag),
-            Message::Change { view, rank, change, set, tags } => self.graded("change", view, rank, change).gathered(set, tags),
-            Message::Deputy { view, rank, speaker, tag } => self.ranked("deputy", view, rank).spoken(speaker, tag),
-            Message::Query { view, rank, set, tags } => self.ranked("query", view, rank).gathered(set, tags),
-            Message::Last { view, rank, speaker, entry, tag, proof, acks } => self.ranked("last", view, rank).reply(speaker, entry, tag).proof(proof, acks),
-            Message::SuggestLast { view, rank, set, entries, proof, acks } => self.ranked("suggest-last", view, rank).replies(set, entries).proof(proof, acks),
-            Message::Init { view, content, tag } => self.opening("init", view).content(content).own_tag(content.sender, tag),
-            Message::Echo { view, content, speaker, tag } => self.opening("echo", view).content(content).spoken(speaker, tag),
-            Message::Commit { view, content, set, tags } => self.opening("commit", view).content(content).gathered(set, tags),
+            Message::Notify {
+                view,
+                change,
+                speaker,
+                tag,
+            } => self.opening("notify", view)
+                .number("change", change)
+                .spoken(speaker, tag),
+            Message::Suggest {
+                view,
+                change,
+                set,
+                tags,
+            } => self.opening("suggest", view)
+                .number("change", change)
+                .gathered(set, tags),
+            Message::Ack {
+                view,
+                rank,
+                change,
+                speaker,
+                tag,
+            } => self.graded("ack", view, rank, change).spoken(speaker, tag),
+            Message::Proposal {
+                view,
+                rank,
+                change,
+                set,
+                tags,
+            } => self.graded("proposal", view, rank, change)
+                .gathered(set, tags),
+            Message::Ready {
+                view,
+                rank,
+                change,
+                speaker,
+                tag,
+            } => self.graded("ready", view, rank, change)
+                .spoken(speaker, tag),
+            Message::Change {
+                view,
+                rank,
+                change,
+                set,
+                tags,
+            } => self.graded("change", view, rank, change)
+                .gathered(set, tags),
+            Message::Deputy {
+                view,
+                rank,
+                speaker,
+                tag,
+            } => self.ranked("deputy", view, rank).spoken(speaker, tag),
+            Message::Query {
+                view,
+                rank,
+                set,
+                tags,
+            } => self.ranked("query", view, rank).gathered(set, tags),
+            Message::Last {
+                view,
+                rank,
+                speaker,
+                entry,
+                tag,
+                proof,
+                acks,
+            } => self.ranked("last", view, rank)
+                .reply(speaker, entry, tag)
+                .proof(proof, acks),
+            Message::SuggestLast {
+                view,
+                rank,
+                set,
+                entries,
+                proof,
+                acks,
+            } => self.ranked("suggest-last", view, rank)
+                .replies(set, entries)
+                .proof(proof, acks),
+            Message::Init { view, content, tag } => self.opening("init", view)
+                .content(content)
+                .own_tag(content.sender, tag),
+            Message::Echo {
+                view,
+                content,
+                speaker,
+                tag,
+            } => self.opening("echo", view)
+                .content(content)
+                .spoken(speaker, tag),
+            Message::Commit {
+                view,
+                content,
+                set,
+                tags,
+            } => self.opening("commit", view)
+                .content(content)
+                .gathered(set, tags),
         }
     }
 }

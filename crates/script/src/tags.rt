@@ -59,7 +59,10 @@ impl Line {
         let mut list = Listing::on(self);
         for i in 0..bytes.len().div_ceil(9) {
             let byte = bytes[9 * i];
-            list = list.entry(Entry { earlier: byte / 16, change: byte % 8 });
+            list = list.entry(Entry {
+                earlier: byte / 16,
+                change: byte % 8,
+            });
         }
         list.closed()
     }

@@ -28,7 +28,9 @@ impl Until {
             Until::Blank => b == b' ' || b == b'\t',
             Until::Solid => !(b == b' ' || b == b'\t'),
             Until::NotText => !(b == b' ' || b == b'\t' || (b > 32 && b < 127)),
-            Until::NotDigit => !((b >= b'0' && b <= b'9') || (b >= b'A' && b <= b'F') || (b >= b'a' && b <= b'f')),
+            Until::NotDigit => !((b >= b'0' && b <= b'9')
+                || (b >= b'A' && b <= b'F')
+                || (b >= b'a' && b <= b'f')),
         }
     }
 }
@@ -54,7 +56,11 @@ fn chomped(line: &[u8]) -> &[u8]
     if n == 0 {
         return line;
     }
-    if line[n - 1] == b'\r' { first(line, n - 1) } else { line }
+    if line[n - 1] == b'\r' {
+        first(line, n - 1)
+    } else {
+        line
+    }
 }
 
 // What a line says: all before its comment.

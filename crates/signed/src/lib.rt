@@ -1,6 +1,8 @@
 // The tags of a message: whose they are, what each stands for, and the tag itself.
 // Rules: docs/FRAMES.md, "Signed words". Words of the contracts: specs/Signed.antt.
+ghost use mathlib.Core.Path.{_≡_};
 ghost use Rattle.wire.specs.Messages.{meaning};
+ghost use Rattle.wire.specs.Acts.{proof-of};
 ghost use Rattle.signed.specs.Places.{Ack-tagged, For-view, Proof-of, Signs-at, Stated-by, Tag-by};
 ghost use Rattle.signed.specs.Signed.{Proof-tagged, Proves, Signed-by, States, Tagged};
 
@@ -132,6 +134,20 @@ fn signed_tag(m: &Message<'_>, board: u8, place: u8) -> Option<u64>
         Message::Init { content, tag, .. } => tag_of(Set::only(content.sender), tag, board, place),
         Message::Echo { speaker, tag, .. } => tag_of(Set::only(speaker), tag, board, place),
         Message::Commit { set, tags, .. } => tag_of(set, tags, board, place),
+    }
+}
+
+// The entry of the lowest earlier rank told in a message, that of the lowest board where several have it; none where there is no rank.
+pub fn lowest_entry(m: &Message<'_>) -> Entry
+    ensures { λ r. ⌜ r ≡ proof-of (meaning (now (m .entry))) .entry ⌝ }
+{
+    match *m {
+        Message::Last { entry, .. } => entry,
+        Message::SuggestLast { set, entries, .. } => lowest(set, entries),
+        _ => Entry {
+            earlier: 0,
+            change: 0,
+        },
     }
 }
 

@@ -21,7 +21,7 @@ pub struct History {
 
 #[derive(Clone, Copy)]
 pub struct Views {
-    history: History,
+    pub history: History,
     ghost counted: { Counted history },
     ghost boards: { By-boards history },
     ghost peopled: { Peopled history },

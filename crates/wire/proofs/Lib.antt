@@ -6,5 +6,6 @@ pub mod Speakers
 pub mod Tells
 pub mod Signs
 pub mod Spelt
+pub mod Eights
 pub mod Answered
 pub mod Worked

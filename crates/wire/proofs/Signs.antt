@@ -43,19 +43,20 @@ widths-differ : {A : Type 0} (v w : ℕ) → v ≡ w → (v ≡ w → ⊥) → A
 widths-differ v w e n = absurd (n e)
 
 -- The highest earlier rank of replies, and of one before them.
-abbrev highest : ℕ → List Reply → ℕ
+abbrev pub highest : ℕ → List Reply → ℕ
 highest top [] = top
 highest top (e ∷ es) = highest (max top (e .entry .earlier)) es
 
--- As many replies as are asked for, each with an entry that is allowed, and then a proof for the highest earlier rank.
-record Answered (k top : ℕ) (es : List Reply) (p : ℕ) (a : List ℕ) : Type 0 where
-  many : length es ≡ k
-  each : All (λ e. Entry-allowed (e .entry)) es
-  after : Held (proof (highest top es) Grammar.done) (set-values p a) Grammar.done
+-- As many replies as are asked for, each with an entry that is allowed and a tag of eight bytes, and then a proof for the highest earlier rank.
+pub record Answered (k top : ℕ) (es : List Reply) (p : ℕ) (a : List ℕ) : Type 0 where
+  pub many : length es ≡ k
+  pub each : All (λ e. Entry-allowed (e .entry)) es
+  pub tagged : All (λ e. length (e .tag) ≡ 8) es
+  pub after : Held (proof (highest top es) Grammar.done) (set-values p a) Grammar.done
 
-answered : (k top : ℕ) (es : List Reply) (p : ℕ) (a : List ℕ) → Held (entries k top (λ t. proof t Grammar.done)) (replies-values es ++ set-values p a) Grammar.done → Answered k top es p a
+pub answered : (k top : ℕ) (es : List Reply) (p : ℕ) (a : List ℕ) → Held (entries k top (λ t. proof t Grammar.done)) (replies-values es ++ set-values p a) Grammar.done → Answered k top es p a
 unfolding entries replies-values
-answered zero top [] p a h = record { many = refl; each = tt; after = h }
+answered zero top [] p a h = record { many = refl; each = tt; tagged = tt; after = h }
 answered zero top (e ∷ es) p a h = widths-differ 4 8 (h .0) (λ e. omega arith)
 answered (suc k) top [] p a h = widths-differ 8 4 (h .0) (λ e. omega arith)
 answered (suc k) top (e ∷ es) p a h =
@@ -63,6 +64,7 @@ answered (suc k) top (e ∷ es) p a h =
     record {
       many = ap suc (r .many);
       each = (record { rank-fits = h .1; rank-allowed = h .2; change-fits = h .3 .3 .1; change-allowed = h .3 .3 .2 }, r .each);
+      tagged = (h .3 .3 .3 .0, r .tagged);
       after = r .after;
     }
 
@@ -149,7 +151,8 @@ proved-ack v e k is on = carry k 3 v is _ (omega arith) refl (λ h.
     let seven : cond (eqb (e .earlier) 0) 0 7 ≡ 7 = cond-false _ _ _ (ne-eqb (e .earlier) 0 (λ z. omega (arith, z, q .0))) in
     (refl, q .1 .rank-fits, ranked, (refl, omega arith, refl, (refl, q .1 .change-fits, subst (λ n. from-to 0 n (e .change) ≡ true) seven (q .1 .change-allowed), refl))))
 
-no-boards : {A : Type 0} (b : ℕ) → member 0 b ≡ true → A
+-- The empty set has no board.
+pub no-boards : {A : Type 0} (b : ℕ) → member 0 b ≡ true → A
 no-boards b i = absurd (both-ways (member 0 b) (member-none b) i)
 
 pub proved-allowed : (m : Msg) (b : ℕ) → Formed m → member (proof-of m .boards) b ≡ true → Allowed (proved-act m)

@@ -7,8 +7,9 @@ use Prim.Native.Nat.{ℕ, _<_, _≤_}
 use native.Mathlib.Omega.{arith}
 use lib.Dec.{eqb, ltb}
 use Rattle.std.proofs.shelf.Tests.{cases-lt, cases-bool, both-ways, eq-eqb, ne-eqb, eqb-true, ltb-true}
-use Rattle.boards.specs.Boards.{member, only, size, place}
-use Rattle.boards.proofs.Members.{every, at-every, member-only, member-below, only-above, same-set}
+use Rattle.boards.specs.Boards.{member, only, every, size, place}
+use Rattle.boards.proofs.Chosen.{every-at}
+use Rattle.boards.proofs.Members.{member-only, member-below, only-above, same-set}
 use Rattle.boards.proofs.Sets.{size-none, place-some, place-below, same-place}
 use Rattle.wire.specs.Fields.{lone}
 
@@ -18,12 +19,12 @@ speaker s =
     cond (eqb s 128) 0 (cond (eqb s 64) 1 (cond (eqb s 32) 2 (cond (eqb s 16) 3 (cond (eqb s 8) 4 (cond (eqb s 4) 5 (cond (eqb s 2) 6 7))))))
 
 pub speaker-only : (b : ℕ) → b < 8 → speaker (only b) ≡ b
-unfolding only
-speaker-only b h = eqb-true (speaker (only b)) b (at-every (λ k. eqb (speaker (only k)) k) 8 refl b h)
+unfolding only every
+speaker-only b h = eqb-true (speaker (only b)) b (every-at (λ k. eqb (speaker (only k)) k) 8 b refl h)
 
 only-below-256 : (b : ℕ) → b < 8 → only b < 256
-unfolding only
-only-below-256 b h = ltb-true (only b) 256 (at-every (λ k. ltb (only k) 256) 8 refl b h)
+unfolding only every
+only-below-256 b h = ltb-true (only b) 256 (every-at (λ k. ltb (only k) 256) 8 b refl h)
 
 pub lone-size : (s : ℕ) → lone s ≡ true → size s ≡ 1
 unfolding lone

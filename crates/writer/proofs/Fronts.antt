@@ -1,4 +1,5 @@
--- The bytes of a head, as the code gets them: the number moved to the top of four bytes. Assumes nothing.
+-- The bytes of a head, as the code gets them.
+-- The number moved to the top of four bytes, of which the first few are the head.
 use mathlib.Core.Path.{_≡_, refl, sym, ap, subst, _∙_}
 use mathlib.Core.List.{List, [], _∷_, _++_}
 use Prim.Native.Nat.{ℕ, zero, suc, _+_, _-_, _*_, _/_, _%_, _^_, _<_, _≤_}
@@ -51,6 +52,6 @@ head-is h x w d =
     let wide : 8 * k ≡ h .width = omega (arith, w .eights) in
     let z : h .width + (32 - h .width) ≡ 32 = omega (arith, w .most) in
     let form : bits part ≡ bitsOf (h .width) (h .number) =
-      take-bits k (four x) ∙ ap (λ j. take j (bits (four x))) wide ∙ ap (take (h .width)) (four-bits x) ∙ top (h .number) (h .width) (32 - h .width) x z d in
+    take-bits k (four x) ∙ ap (λ j. take j (bits (four x))) wide ∙ ap (take (h .width)) (four-bits x) ∙ top (h .number) (h .width) (32 - h .width) x z d in
     let long : length part ≡ k = length-take-le k (four x) (omega (arith, w .most)) in
     sym (bytes-bits part [] (all-take _ k (four x) (four-fit x))) ∙ (λ i. bytesOf (long i) ((append-nil (bits part) ∙ form) i))

@@ -1,4 +1,5 @@
--- How long a layout is, part by part. Assumes nothing.
+-- How long a layout is, part by part.
+-- The sum as the code has it, and the parts in order.
 use mathlib.Core.Path.{_≡_, refl, sym, ap, subst, _∙_}
 use mathlib.Core.List.{List, [], _∷_, _++_}
 use Prim.Native.Nat.{ℕ, _+_, _*_, _/_}

@@ -1,4 +1,5 @@
--- One part put after another, from a place on. Assumes nothing.
+-- One part put after another, from a place on.
+-- Two puts are one put of both parts.
 use mathlib.Core.Path.{_≡_, refl, sym, ap, subst, _∙_}
 use mathlib.Core.List.{List, [], _∷_, _++_}
 use Prim.Native.Nat.{ℕ, _+_, _*_, _<_, _≤_}
@@ -19,7 +20,7 @@ more {old} {xs} {ys} {new} {newer} {n} {m} {r} h f p =
     let rest : drop m new ≡ drop m old = ap (drop m) split ∙ drop-at (take n old ++ xs) (drop m old) m long in
     let all : m + length ys ≡ n + length (xs ++ ys) = simp length-append (omega (arith, f .place)) in
     let back : drop (m + length ys) new ≡ drop (n + length (xs ++ ys)) old =
-      sym (drop-drop (length ys) m new) ∙ ap (drop (length ys)) rest ∙ drop-drop (length ys) m old ∙ ap (λ k. drop k old) all in
+    sym (drop-drop (length ys) m new) ∙ ap (drop (length ys)) rest ∙ drop-drop (length ys) m old ∙ ap (λ k. drop k old) all in
     record {
       place = p .place ∙ all;
       after = p .after ∙ (λ i. front i ++ (ys ++ back i)) ∙ append-assoc (take n old) xs (ys ++ drop (n + length (xs ++ ys)) old) ∙ ap (λ l. take n old ++ l) (sym (append-assoc xs ys (drop (n + length (xs ++ ys)) old)));

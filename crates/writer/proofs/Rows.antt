@@ -1,4 +1,5 @@
--- Tags and replies put board by board. Assumes nothing.
+-- Tags and replies put board by board.
+-- One more at a member, none at any other board.
 use mathlib.Core.Path.{_≡_, refl, sym, ap, subst, _∙_}
 use mathlib.Core.Bool.{Bool, true, false, cond}
 use mathlib.Core.List.{List, [], _∷_, _++_}

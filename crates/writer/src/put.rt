@@ -18,6 +18,7 @@ use wire::message::Entries;
 use wire::message::Entry;
 use wire::message::Tags;
 
+// All the parts, and how many bytes they are.
 pub(crate) fn put_layout(out: &mut [u8], layout: &Layout<'_>) -> usize
     requires { ⌜ length (layout-bytes (now layout)) ≤ length (now out) ⌝ ∗ ⌜ Whole (now layout .head) ⌝ ∗ ⌜ Sized (now layout .middle) ⌝ }
     ensures { λ r. ⌜ Put (now (out .entry)) 0 (layout-bytes (now (layout .entry))) r (now (out .exit)) ⌝ }
@@ -47,6 +48,7 @@ fn put_head(out: &mut [u8], head: Head) -> usize
     put(out, 0, &bytes[0..(head.width / 8) as usize])
 }
 
+// What stands between the head and the last set.
 fn put_middle(out: &mut [u8], at: usize, middle: Middle<'_>) -> usize
     requires { ⌜ at + length (middle-bytes middle) ≤ length (now out) ⌝ ∗ ⌜ Sized middle ⌝ }
     ensures { λ r. ⌜ Put (now (out .entry)) at (middle-bytes (middle .entry)) r (now (out .exit)) ⌝ }
@@ -71,6 +73,7 @@ fn put_tags(out: &mut [u8], at: usize, set: Set, tags: Tags<'_>) -> usize
     }
 }
 
+// The tags of a set out of a row that has one for each board.
 fn put_stored(out: &mut [u8], at: usize, set: Set, row: &[u64; 8]) -> usize
     requires { ⌜ at + 8 * size (set .bits) ≤ length (now out) ⌝ }
     ensures { λ r. ⌜ Put (now (out .entry)) at (stored-tags (set .bits) (now (row .entry))) r (now (out .exit)) ⌝ }
@@ -84,6 +87,7 @@ fn put_stored(out: &mut [u8], at: usize, set: Set, row: &[u64; 8]) -> usize
     n
 }
 
+// A tag at its place, and the place after it.
 fn put_tag(out: &mut [u8], at: usize, tag: u64) -> usize
     requires { ⌜ at + 8 ≤ length (now out) ⌝ }
     ensures { λ r. ⌜ Put (now (out .entry)) at (tag-bytes tag) r (now (out .exit)) ⌝ }
@@ -114,6 +118,7 @@ fn put_replies(out: &mut [u8], at: usize, set: Set, entries: Entries<'_>) -> usi
     n
 }
 
+// An entry's byte and its tag.
 fn put_reply(out: &mut [u8], at: usize, set: Set, entry: Entry, tag: Tags<'_>) -> usize
     requires { ⌜ at + 1 + length (tags-of (set .bits) tag) ≤ length (now out) ⌝ }
     ensures { λ r. ⌜ Put (now (out .entry)) at (entry-byte entry ∷ tags-of (set .bits) (tag .entry)) r (now (out .exit)) ⌝ }

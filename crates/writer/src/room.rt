@@ -10,13 +10,18 @@ use layout::plan::Layout;
 use layout::plan::Middle;
 use wire::message::Tags;
 
+// The bytes of all the parts.
 pub(crate) fn needed(layout: &Layout<'_>) -> usize
     requires { ⌜ length (layout-bytes (now layout)) ≤ 141 ⌝ ∗ ⌜ Sized (now layout .middle) ⌝ }
     ensures { λ r. ⌜ r ≡ length (layout-bytes (now (layout .entry))) ⌝ }
 {
-    (layout.head.width / 8) as usize + of_middle(layout.middle) + 1 + of_tags(layout.set, layout.tags)
+    (layout.head.width / 8) as usize
+        + of_middle(layout.middle)
+        + 1
+        + of_tags(layout.set, layout.tags)
 }
 
+// The bytes of what stands between the head and the last set.
 fn of_middle(middle: Middle<'_>) -> usize
     requires { ⌜ Sized middle ⌝ }
     ensures { λ r. ⌜ r ≡ length (middle-bytes (middle .entry)) ⌝ }
@@ -29,6 +34,7 @@ fn of_middle(middle: Middle<'_>) -> usize
     }
 }
 
+// The bytes of the tags of a set.
 fn of_tags(set: Set, tags: Tags<'_>) -> usize
     ensures { λ r. ⌜ r ≡ length (tags-of (set .bits) (tags .entry)) ⌝ }
 {

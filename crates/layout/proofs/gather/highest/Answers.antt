@@ -1,4 +1,5 @@
--- Uneven entries and an entry that is not allowed may not stand; what has passed may.
+-- Uneven entries and an entry that is not allowed may not stand.
+-- What has passed may, with one reply more at each member.
 use mathlib.Core.Path.{_≡_, refl, sym, ap, subst, _∙_}
 use mathlib.Core.Bool.{true, false}
 use Prim.Native.Nat.{_+_, max}
@@ -26,10 +27,10 @@ loop-board-again c =
     let es = c .args .entries in
     let b = c .loop-board .board in
     elim (c .match-reply .came) [
-      in-Some·else-not-allowed w ↦
-        let r = w .in-Some .ensures tt in
-        let p : proper (reply-of s es b .entry) ≡ true = ap proper (sym (r .1)) ∙ sym (w .allowed .ensures) ∙ w .if-not-allowed .left in
-        subst (Going s es (b + 1)) (ap (λ e. max (c .loop-board .top) (e .earlier)) (sym (r .1)) ∙ sym (w .max-top .ensures) ∙ sym (w .top-is)) (next (c .loop-board .inv) (r .0) p (tag-of-even s es b _ (c .even .ensures) (c .if-not-even .left) (r .0)))
+      | in-Some·else-not-allowed w ↦
+          let r = w .in-Some .ensures tt in
+          let p : proper (reply-of s es b .entry) ≡ true = ap proper (sym (r .1)) ∙ sym (w .allowed .ensures) ∙ w .if-not-allowed .left in
+          subst (Going s es (b + 1)) (ap (λ e. max (c .loop-board .top) (e .earlier)) (sym (r .1)) ∙ sym (w .max-top .ensures) ∙ sym (w .top-is)) (next (c .loop-board .inv) (r .0) p (tag-of-even s es b _ (c .even .ensures) (c .if-not-even .left) (r .0)))
       | in-rest w ↦ subst (Going s es (b + 1)) (sym (w .top-is)) (skip (c .loop-board .inv) (absent s es b (evens _ _ _ (c .even .ensures) (c .if-not-even .left)) (w .in-rest .ensures tt)))
     ]
 

@@ -1,4 +1,5 @@
--- The replies of the boards passed are allowed, and `top` is their highest earlier rank.
+-- The replies of the boards passed are allowed.
+-- `top` is their highest earlier rank.
 use Rattle.layout.specs.Measures.{Even, Going}
 use Rattle.layout.proofs.gather.highest.Given as given
 

@@ -1,4 +1,5 @@
 -- A board with a rank is below 8.
+-- So it is an index of a row.
 use Rattle.boards.proofs.Members.{member-below}
 use Rattle.layout.proofs.gather.reply.Needs as need
 

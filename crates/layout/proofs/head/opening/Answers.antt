@@ -1,5 +1,6 @@
 -- Nothing is taken of a message at first; then its kind, then its view.
-use mathlib.Core.Path.{_≡_, refl, subst}
+-- The table says what follows.
+use mathlib.Core.Path.{_≡_, refl, sym, subst}
 use Prim.Native.Nat.{_^_, _<_}
 use native.Mathlib.Omega.{arith}
 use mathlib.Core.Bool.{true}
@@ -17,9 +18,9 @@ nothing = record { form = refl; goes = After.start }
 
 pub returns : need.returns
 returns c =
-    let w : c .with-2 .result .width ≡ 12 = omega arith in
+    let w : c .field .result .width ≡ 12 = omega arith in
     record {
-      holds = λ k e. subst (Holds (c .with-2 .result) _) e (c .with-2 .ensures .holds _ _ _ refl (c .with .ensures .holds _ _ _ refl nothing));
+      holds = λ k e. subst (Holds (c .field .result) _) e (c .field .ensures .holds _ _ _ (sym (c .is-view .ensures)) (c .with .ensures .holds _ _ _ refl nothing));
       wide = w;
-      below = subst (λ n. c .with-2 .result .number < 2 ^ n) w (c .with-2 .ensures .below);
+      below = subst (λ n. c .field .result .number < 2 ^ n) w (c .field .ensures .below);
     }

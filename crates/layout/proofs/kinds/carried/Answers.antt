@@ -1,4 +1,5 @@
--- Sender, number, sort and length after kind and view; the sort says which lengths there are.
+-- Sender, number, sort and length after kind and view.
+-- The sort says which lengths there are.
 use mathlib.Core.Path.{_≡_, refl, sym, ap, subst, _∙_}
 use mathlib.Core.Bool.{cond}
 use mathlib.Core.List.{[], _∷_}
@@ -22,7 +23,7 @@ returns c =
     let P : (ℕ → Grammar) → ℕ → ℕ → Type 0 = λ k m y. Holds (c .with-4 .result) (opening (c .args .kind) (c .args .view) (Item.num 3 (x .sender) ∷ Item.num 8 (x .number) ∷ Item.num 3 m ∷ Item.num 6 y ∷ [])) (Grammar.part y (λ _. k (x .sender))) in
     record {
       head = headed (omega arith) (c .with-4 .ensures .below) (λ k e.
-        let sorted = c .with-3 .ensures .holds _ _ _ refl (c .with-2 .ensures .holds _ _ _ refl (c .with .ensures .holds _ _ _ refl (c .opening .ensures .holds _ e))) in
-        subst (P k _) (c .count .ensures .0) (subst (λ m. P k m n) (l .number) (c .with-4 .ensures .holds _ _ _ (λ i. from-to (least i) (most i) n) sorted)));
+          let sorted = c .with-3 .ensures .holds _ _ _ refl (c .with-2 .ensures .holds _ _ _ refl (c .with .ensures .holds _ _ _ refl (c .opening .ensures .holds _ e))) in
+          subst (P k _) (c .count .ensures .0) (subst (λ m. P k m n) (l .number) (c .with-4 .ensures .holds _ _ _ (λ i. from-to (least i) (most i) n) sorted)));
       fit = c .count .ensures .1;
     }

@@ -1,4 +1,5 @@
 -- Five zero bits and a change after the rank.
+-- Each field is one step.
 use mathlib.Core.Path.{refl}
 use native.Mathlib.Omega.{arith}
 use Rattle.layout.proofs.Joins.{headed}

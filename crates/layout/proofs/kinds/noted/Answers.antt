@@ -1,4 +1,5 @@
 -- A zero bit and a change after kind and view.
+-- Each field is one step.
 use mathlib.Core.Path.{refl}
 use native.Mathlib.Omega.{arith}
 use Rattle.layout.proofs.Joins.{headed}

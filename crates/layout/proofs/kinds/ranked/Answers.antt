@@ -1,4 +1,5 @@
 -- A rank after kind and view.
+-- One step.
 use mathlib.Core.Path.{refl}
 use native.Mathlib.Omega.{arith}
 use Rattle.layout.proofs.Joins.{headed}

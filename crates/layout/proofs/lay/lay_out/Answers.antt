@@ -1,4 +1,5 @@
--- Each kind by its head and its end; what the table has for the kind, antt computes.
+-- Each kind by its head and its end.
+-- What the table has for the kind, antt computes.
 use mathlib.Core.Path.{_≡_, refl, sym, ap, subst, _∙_}
 use mathlib.Core.List.{[], _∷_, _++_}
 use mathlib.Core.Bool.{true}

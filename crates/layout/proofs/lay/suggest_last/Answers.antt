@@ -1,4 +1,5 @@
--- The set in the head, then the replies of its boards, then the proof for the highest earlier rank.
+-- The set in the head, then the replies of its boards.
+-- Then the proof for the highest earlier rank.
 use mathlib.Core.Path.{_≡_, refl, sym, subst}
 use mathlib.Core.List.{[], _∷_, _++_}
 use Prim.Native.Nat.{ℕ, _<_, _^_}

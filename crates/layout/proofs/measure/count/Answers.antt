@@ -1,4 +1,5 @@
 -- A slice of bytes holds bytes.
+-- The checker knows it of each element.
 use Rattle.std.proofs.shelf.Elements.{all-from-getD}
 use Rattle.layout.proofs.measure.count.Needs as need
 

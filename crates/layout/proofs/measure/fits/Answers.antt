@@ -1,4 +1,5 @@
 -- Stored tags are as many as the set has boards.
+-- The other kinds of tags need no proof here.
 use mathlib.Core.Path.{_≡_, sym, subst}
 use mathlib.Core.Bool.{true}
 use Rattle.std.proofs.shelf.Tests.{eq-eqb}

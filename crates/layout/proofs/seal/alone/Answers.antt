@@ -1,4 +1,5 @@
--- A board below 8 makes a set of one, any other the empty set, which is not allowed.
+-- A board below 8 makes a set of one.
+-- Any other makes the empty set, which is not allowed.
 use mathlib.Core.Path.{_≡_, sym, ap, subst, _∙_}
 use mathlib.Core.List.{_++_}
 use native.Mathlib.Omega.{arith}

@@ -1,4 +1,5 @@
 -- A proof where there is an earlier rank, none where there is none.
+-- Any other may not stand.
 use mathlib.Core.Path.{_≡_, refl, sym, _∙_}
 use Rattle.layout.proofs.Seals.{refused}
 use Rattle.layout.proofs.seal.proven.Needs as need

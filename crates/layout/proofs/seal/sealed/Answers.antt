@@ -1,4 +1,5 @@
--- Allowed fields and fitting tags make a message; either one missing makes none.
+-- Allowed fields and fitting tags make a message.
+-- Either one missing makes none.
 use mathlib.Core.Path.{_≡_, sym, _∙_}
 use mathlib.Core.Bool.{Bool, true, false}
 use mathlib.Core.Logic.{⊎-elim}

@@ -1,3 +1,5 @@
+-- The words of a reason, at the arms that the search leaves.
+-- Each is the definition at its case.
 use mathlib.Core.Path.{sym, ap}
 use Rattle.script.specs.Outcomes.{reason-text}
 use Rattle.script.proofs.answer.reason_text.Needs as need

@@ -1,3 +1,5 @@
+-- The digits of a word: none for the dash, else its own.
+-- A word of digits only, and an even number of them.
 use borrow.Author.Needs.{needs}
 use mathlib.Core.Path.{refl}
 use native.Mathlib.Omega.{arith}

@@ -1,3 +1,5 @@
+-- A word that equals the name of a call names it.
+-- The library's law of equal slices.
 use Rattle.std.proofs.shelf.Equals.{matches-decides}
 use Rattle.script.proofs.call.named.Needs as need
 

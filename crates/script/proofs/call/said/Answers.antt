@@ -1,3 +1,5 @@
+-- The exits of the parse where the words after the name are wrong.
+-- The laws are in Parsing.
 use borrow.Author.Needs.{needs}
 use Rattle.std.proofs.shelf.Results.{err-from-errBy}
 use Rattle.script.specs.Words.{Whole, plain}

@@ -1,3 +1,5 @@
+-- Reading hexadecimal undoes writing it.
+-- The law is in Undoing.
 use Rattle.script.proofs.Undoing.{undone}
 use Rattle.script.proofs.hex.reading_undoes_writing.Needs as need
 

@@ -1,3 +1,5 @@
+-- What is left past a place is what the library's cut gives.
+-- Past the end nothing is left.
 use mathlib.Core.Path.{sym}
 use native.Mathlib.Omega.{arith}
 use Prim.Native.Nat.{_-_}

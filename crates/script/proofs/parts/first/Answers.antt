@@ -1,3 +1,5 @@
+-- The front of bytes that are fewer is all of them.
+-- The library's cut gives the rest.
 use mathlib.Core.Path.{sym}
 use native.Mathlib.Omega.{arith}
 use Rattle.std.proofs.shelf.Lists.{take-all}

@@ -1,3 +1,5 @@
+-- A line of no bytes has no carriage return.
+-- The law is in Wording.
 use Rattle.script.proofs.Wording.{unchomped}
 use Rattle.script.proofs.words.chomped.Needs as need
 

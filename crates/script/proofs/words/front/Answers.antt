@@ -1,3 +1,5 @@
+-- The front goes on byte by byte until one ends it.
+-- The laws are in Fronts.
 use mathlib.Core.Path.{sym, ap}
 use mathlib.Core.Bool.{not}
 use native.Mathlib.Nat.{zero-add}

@@ -1,3 +1,5 @@
+-- What is left to pass, and what was passed, make the whole front.
+-- Each turn passes one byte.
 use mathlib.Core.Path.{_≡_}
 use mathlib.Core.Bool.{not}
 use Prim.Native.Nat.{_+_}

@@ -1,3 +1,5 @@
+-- The next word: past the blanks, up to the next.
+-- The laws are in Wording.
 use Rattle.script.proofs.Wording.{found-none, found}
 use Rattle.script.proofs.words.next_word.Needs as need
 

@@ -1,4 +1,5 @@
--- The number at the top of four bytes, of which the head is the first few.
+-- The number at the top of four bytes.
+-- The head is the first few of them.
 use mathlib.Core.Path.{_≡_, refl, sym, ap, _∙_}
 use Prim.Native.Nat.{ℕ, _+_, _-_, _*_, _/_, _%_, _^_, _≤_}
 use native.Mathlib.Omega.{arith}

@@ -1,4 +1,5 @@
 -- Head, middle, set and tags one after another.
+-- There is room for each since there is for all.
 use mathlib.Core.Path.{_≡_}
 use native.Mathlib.Omega.{arith}
 use Rattle.writer.proofs.Puts.{more, same}

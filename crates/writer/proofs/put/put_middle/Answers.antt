@@ -1,4 +1,5 @@
--- Replies are nine bytes for each board; nothing is nothing.
+-- Replies are nine bytes for each board.
+-- Nothing is nothing.
 use mathlib.Core.Path.{_≡_, sym, subst}
 use Prim.Native.Nat.{_+_, _≤_}
 use native.Mathlib.Omega.{arith}

@@ -1,4 +1,5 @@
 -- One reply more at a member, none at any other board.
+-- There is room for nine bytes for each.
 use mathlib.Core.Path.{_≡_, sym, ap, subst, _∙_}
 use mathlib.Core.List.{_∷_, _++_}
 use Prim.Native.Nat.{_+_}
@@ -32,9 +33,9 @@ loop-board-again c =
     let es = c .args .entries in
     let b = c .loop-board .board in
     elim (c .match-reply .came) [
-      in-Some w ↦
-        let r = w .in-Some .ensures tt in
-        reached (w .n-is) (w .out-is) (same (ap (λ x. answers s es b ++ x) (λ i. entry-byte (r .1 i) ∷ r .2 i) ∙ answers-in s es b (r .0)) (more (omega arith) (c .loop-board .inv) (w .put-reply-n .ensures)))
+      | in-Some w ↦
+          let r = w .in-Some .ensures tt in
+          reached (w .n-is) (w .out-is) (same (ap (λ x. answers s es b ++ x) (λ i. entry-byte (r .1 i) ∷ r .2 i) ∙ answers-in s es b (r .0)) (more (omega arith) (c .loop-board .inv) (w .put-reply-n .ensures)))
       | in-rest w ↦ reached (w .n-is) (w .out-is) (same (answers-out s es b (absent s es b (c .pre .1) (w .in-rest .ensures tt))) (c .loop-board .inv))
     ]
 

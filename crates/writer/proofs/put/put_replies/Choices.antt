@@ -1,4 +1,5 @@
 -- The replies of the boards passed stand one after another.
+-- All else is as it was.
 use Rattle.writer.specs.Writes.{Put}
 use Rattle.writer.proofs.Rows.{answers}
 use Rattle.writer.proofs.put.put_replies.Given as given

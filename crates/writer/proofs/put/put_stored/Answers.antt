@@ -1,4 +1,5 @@
 -- One tag more at a member, none at any other board.
+-- There is room for one tag for each.
 use mathlib.Core.Path.{_≡_, sym, subst, _∙_}
 use mathlib.Core.Bool.{true, false}
 use native.Mathlib.Omega.{arith}
@@ -25,7 +26,7 @@ loop-board-again c =
     let ts = c .args .row .now in
     let b = c .loop-board .board in
     elim (c .if-has .came) [
-      then-has w ↦ reached (w .n-is) (w .out-is) (same (row-in s ts b (sym (c .has .ensures .is) ∙ w .if-has .taken)) (more (omega arith) (c .loop-board .inv) (w .put-tag-n .ensures)))
+      | then-has w ↦ reached (w .n-is) (w .out-is) (same (row-in s ts b (sym (c .has .ensures .is) ∙ w .if-has .taken)) (more (omega arith) (c .loop-board .inv) (w .put-tag-n .ensures)))
       | else-has w ↦ reached (w .n-is) (w .out-is) (same (row-out s ts b (sym (c .has .ensures .is) ∙ w .if-has .left)) (c .loop-board .inv))
     ]
 

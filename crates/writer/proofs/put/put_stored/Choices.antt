@@ -1,4 +1,5 @@
 -- The tags of the boards passed stand one after another.
+-- All else is as it was.
 use Rattle.writer.specs.Writes.{Put}
 use Rattle.writer.proofs.Rows.{row}
 use Rattle.writer.proofs.put.put_stored.Given as given

@@ -1,4 +1,5 @@
--- A write to a part leaves what stands before and after it.
+-- A tag written over its place leaves what stands before and after it.
+-- The search finds both.
 use borrow.Author.Needs.{needs}
 use Rattle.std.proofs.shelf.Parts.{overwrites}
 use Rattle.writer.proofs.put.put_tag.Needs as need

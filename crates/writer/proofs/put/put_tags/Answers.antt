@@ -1,4 +1,5 @@
 -- Stored tags are eight bytes for each board.
+-- So there is room for them.
 use mathlib.Core.Path.{_≡_, subst}
 use Prim.Native.Nat.{_+_, _≤_}
 use native.Mathlib.Omega.{arith}

@@ -1,4 +1,5 @@
--- The parts together, none of them longer than the whole.
+-- The parts together.
+-- None of them is longer than the whole, which is short.
 use mathlib.Core.Path.{sym}
 use native.Mathlib.Omega.{arith}
 use Rattle.writer.proofs.Lengths.{layout-sum}

@@ -1,4 +1,5 @@
 -- Replies are nine bytes for each board.
+-- What else may stand there needs no proof here.
 use mathlib.Core.Path.{_≡_, sym, ap, subst, _∙_}
 use Prim.Native.Nat.{_*_}
 use lib.ListN.{length}

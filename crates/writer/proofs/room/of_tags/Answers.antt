@@ -1,4 +1,5 @@
 -- Stored tags are eight bytes for each board.
+-- The other kinds of tags need no proof here.
 use mathlib.Core.Path.{_≡_, sym, ap, _∙_}
 use Prim.Native.Nat.{_*_}
 use lib.ListN.{length}

@@ -1,4 +1,5 @@
--- Widening a number leaves its bits, and the low bits of the value come beside them.
+-- Widening a number leaves its bits.
+-- The low bits of the value come beside them.
 use mathlib.Core.Path.{_≡_, refl, sym, ap, _∙_, subst}
 use mathlib.Core.Bool.{_&&_}
 use Prim.Native.Nat.{ℕ, _+_, _*_, _^_, _%_, _<_, _≤_}

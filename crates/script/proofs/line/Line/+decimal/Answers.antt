@@ -1,3 +1,5 @@
+-- The digits of a number, one below ten or more.
+-- The library's laws of decimal text.
 use mathlib.Core.Path.{_≡_, sym, ap, _∙_}
 use mathlib.Core.List.{_∷_, []}
 use native.Mathlib.Omega.{arith}

@@ -1,3 +1,5 @@
+-- The text of an answer at its case is the text of the answer.
+-- The parts of each are written one after another.
 use mathlib.Core.Path.{_≡_, sym, subst}
 use Rattle.script.specs.declared.line.Line.{Line}
 use Rattle.script.specs.declared.answer.Answer.{Answer}

@@ -1,3 +1,5 @@
+-- The parts of an answer line, one after another.
+-- The laws are in Chains.
 use Rattle.script.proofs.Chains.{then}
 use Rattle.script.proofs.line.Line.answered.Needs as need
 

@@ -1,3 +1,5 @@
+-- The list so far: the boards of a set.
+-- Each turn adds one item at most.
 use Rattle.std.specs.Written.{decimal}
 use Rattle.boards.specs.Boards.{member}
 use Rattle.script.proofs.Listings.{Below}

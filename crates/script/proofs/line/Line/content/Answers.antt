@@ -1,3 +1,5 @@
+-- The parts of what a message carries, one after another.
+-- The laws are in Chains.
 use mathlib.Core.Path.{ap}
 use lib.Chars.{codes}
 use Rattle.script.specs.Texts.{field}

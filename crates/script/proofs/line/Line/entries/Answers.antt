@@ -1,3 +1,5 @@
+-- Stored entries have the text of the message's.
+-- The laws are in Stored.
 use mathlib.Core.Path.{sym, subst}
 use Rattle.wire.specs.Messages.{replies-of}
 use Rattle.script.specs.Lines.{Wrote}

@@ -1,3 +1,5 @@
+-- The parts of an entry, one after another.
+-- The laws are in Chains.
 use borrow.Author.Needs.{needs}
 use Rattle.script.proofs.Chains.{then, same}
 use Rattle.script.proofs.line.Line.entry.Needs as need

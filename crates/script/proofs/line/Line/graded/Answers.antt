@@ -1,3 +1,5 @@
+-- The parts of a head with rank and change, one after another.
+-- The laws are in Chains.
 use Rattle.script.proofs.Chains.{then}
 use Rattle.script.proofs.line.Line.graded.Needs as need
 

@@ -1,3 +1,5 @@
+-- The list of entries that were heard, item by item.
+-- The laws are in Listings and Stored.
 use mathlib.Core.List.{map}
 use Rattle.wire.specs.Messages.{replies-in}
 use Rattle.script.specs.Texts.{entry-text}

@@ -1,3 +1,5 @@
+-- The list so far: entries that were heard.
+-- Each turn adds one item at most.
 use mathlib.Core.List.{map}
 use Rattle.wire.specs.Messages.{replies-in}
 use Rattle.script.specs.Texts.{entry-text, hex}

@@ -1,3 +1,5 @@
+-- The list of tags that were heard, item by item.
+-- The laws are in Listings and Stored.
 use lib.ListN.{take}
 use mathlib.Core.Path.{ap, _∙_}
 use mathlib.Core.List.{[], _∷_, _++_}

@@ -1,3 +1,5 @@
+-- The list so far: tags that were heard.
+-- Each turn adds one item at most.
 use Rattle.script.specs.Texts.{tags-in}
 use Rattle.script.proofs.Listings.{Up-to}
 use Rattle.script.proofs.line.Line.heard_tags.Given as given

@@ -1,3 +1,5 @@
+-- The line with bytes in hexadecimal, byte by byte.
+-- The laws are in Chains and Undoing.
 use lib.ListN.{take}
 use native.Mathlib.Omega.{arith}
 use mathlib.Core.Path.{ap, _∙_}

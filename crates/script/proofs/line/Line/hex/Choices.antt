@@ -1,3 +1,5 @@
+-- The line so far: bytes in hexadecimal.
+-- Each turn adds one byte of them.
 use lib.ListN.{take}
 use Rattle.script.specs.Lines.{Wrote}
 use Rattle.script.specs.Texts.{hex}

@@ -1,3 +1,5 @@
+-- Each kind's parts, one after another.
+-- What is written at a kind is written of the message.
 use Rattle.script.proofs.Chains.{then}
 use Rattle.script.proofs.Messages.{known}
 use Rattle.script.proofs.line.Line.message.Needs as need

@@ -1,3 +1,5 @@
+-- The parts of a field's name, one after another.
+-- The laws are in Chains.
 use Rattle.script.specs.Texts.{field}
 use Rattle.script.proofs.Chains.{then}
 use Rattle.script.proofs.line.Line.name.Needs as need

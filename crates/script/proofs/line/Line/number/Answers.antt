@@ -1,3 +1,5 @@
+-- The parts of a field that is a number, one after another.
+-- The laws are in Chains.
 use Rattle.script.proofs.Chains.{named}
 use Rattle.script.proofs.line.Line.number.Needs as need
 

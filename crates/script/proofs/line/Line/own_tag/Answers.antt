@@ -1,3 +1,5 @@
+-- The parts of a board's own tag, one after another.
+-- The laws are in Chains.
 use mathlib.Core.Path.{ap}
 use Rattle.wire.specs.Messages.{tags-of}
 use Rattle.script.specs.Texts.{tags-text}

@@ -1,3 +1,5 @@
+-- The parts of a payload, one after another.
+-- The laws are in Chains.
 use mathlib.Core.Path.{sym}
 use Rattle.script.proofs.Chains.{then, named, same, dash-is, hex-is}
 use Rattle.script.proofs.line.Line.payload.Needs as need

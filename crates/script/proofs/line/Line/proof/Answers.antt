@@ -1,3 +1,5 @@
+-- The parts of a proof, one after another.
+-- The laws are in Chains.
 use Rattle.script.proofs.Chains.{then, named}
 use Rattle.script.proofs.line.Line.proof.Needs as need
 

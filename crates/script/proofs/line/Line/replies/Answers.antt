@@ -1,3 +1,5 @@
+-- The parts of entries and their tags, one after another.
+-- The laws are in Chains.
 use Rattle.script.proofs.Chains.{then, named}
 use Rattle.script.proofs.line.Line.replies.Needs as need
 

@@ -1,3 +1,5 @@
+-- The parts of a speaker with its entry, one after another.
+-- The laws are in Chains.
 use Rattle.script.proofs.Chains.{then, named}
 use Rattle.script.proofs.line.Line.reply.Needs as need
 

@@ -1,3 +1,5 @@
+-- The list of entries stored by board number, item by item.
+-- The laws are in Listings and Stored.
 use mathlib.Core.Path.{sym}
 use native.Mathlib.Omega.{arith}
 use lib.ListN.{getD}
@@ -14,8 +16,8 @@ loop-board-holds c = below-none (member (c .args .set .bits)) (λ b. entry-text 
 pub loop-board-again : need.loop-board-again
 loop-board-again c =
     elim (c .if-has .came) [
-      then-has w ↦ below-more (member (c .args .set .bits)) (λ b. entry-text (getD (c .args .entries .now) b none)) (c .loop-board .board) (c .loop-board .inv) (sym (w .if-has .ensures tt .is)) (w .entry-list .ensures) (w .list-is)
-    | else-has w ↦ below-same (member (c .args .set .bits)) (λ b. entry-text (getD (c .args .entries .now) b none)) (c .loop-board .board) (c .loop-board .inv) (sym (w .if-has .ensures tt .is)) (w .list-is)
+      | then-has w ↦ below-more (member (c .args .set .bits)) (λ b. entry-text (getD (c .args .entries .now) b none)) (c .loop-board .board) (c .loop-board .inv) (sym (w .if-has .ensures tt .is)) (w .entry-list .ensures) (w .list-is)
+      | else-has w ↦ below-same (member (c .args .set .bits)) (λ b. entry-text (getD (c .args .entries .now) b none)) (c .loop-board .board) (c .loop-board .inv) (sym (w .if-has .ensures tt .is)) (w .list-is)
     ]
 
 pub returns : need.returns

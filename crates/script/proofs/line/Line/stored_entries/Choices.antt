@@ -1,3 +1,5 @@
+-- The list so far: entries stored by board number.
+-- Each turn adds one item at most.
 use lib.ListN.{getD}
 use Rattle.boards.specs.Boards.{member}
 use Rattle.script.specs.Texts.{entry-text}

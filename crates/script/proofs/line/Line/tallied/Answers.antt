@@ -1,3 +1,5 @@
+-- The parts of the last line, one after another.
+-- The laws are in Chains.
 use mathlib.Core.Path.{ap}
 use Rattle.std.specs.Written.{decimal}
 use Rattle.script.proofs.Chains.{then, same}

@@ -1,3 +1,5 @@
+-- The line with the bytes that digits stand for, byte by byte.
+-- The laws are in Chains and Undoing.
 use mathlib.Core.Path.{_≡_, subst}
 use native.Mathlib.Omega.{arith}
 use Prim.Native.Nat.{_+_, _*_}

@@ -1,3 +1,5 @@
+-- The whole list, or the dash for none.
+-- The laws are in Listings.
 use Rattle.script.proofs.Listings.{closed-some, closed-none}
 use Rattle.script.proofs.lists.Listing.closed.Needs as need
 

@@ -1,3 +1,5 @@
+-- One more item, an entry.
+-- The law is in Listings.
 use Rattle.script.proofs.Listings.{lists-more}
 use Rattle.script.proofs.lists.Listing.entry.Needs as need
 

@@ -1,3 +1,5 @@
+-- One more item, bytes.
+-- The law is in Listings.
 use Rattle.script.proofs.Listings.{lists-more}
 use Rattle.script.proofs.lists.Listing.hex.Needs as need
 

@@ -1,3 +1,5 @@
+-- One more item, a number.
+-- The law is in Listings.
 use Rattle.script.proofs.Listings.{lists-more}
 use Rattle.script.proofs.lists.Listing.number.Needs as need
 

@@ -1,3 +1,5 @@
+-- A list of nothing yet.
+-- The law is in Listings.
 use Rattle.script.proofs.Listings.{lists-none}
 use Rattle.script.proofs.lists.Listing.on.Needs as need
 

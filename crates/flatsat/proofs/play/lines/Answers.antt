@@ -1,8 +1,9 @@
-use mathlib.Core.Path.{refl}
+-- The lines of a script, one after another.
+-- The laws are in Turns.
 use native.Mathlib.Omega.{arith}
 use lib.ListN.{length}
-use Rattle.flatsat.proofs.Turns.{going-none, going-more, less, some-bytes, printed}
-use Rattle.flatsat.proofs.play.play.Needs as need
+use Rattle.flatsat.proofs.Turns.{going-none, going-more, less, some-bytes, all-played}
+use Rattle.flatsat.proofs.play.lines.Needs as need
 
 pub loop-rest-holds : need.loop-rest-holds
 loop-rest-holds c = going-none _ _ _
@@ -19,5 +20,4 @@ line-requires c κs =
     omega (arith, c .loop-rest .inv .few, some-bytes (length (c .loop-rest .rest .now)) (c .loop-rest-test .ensures tt), c .new-2 .ensures .0, c .new-2 .ensures .1, c .new-2 .ensures .2)
 
 pub returns : need.returns
-returns c =
-    printed (c .loop-rest .page .text) (c .tally-line .result) (c .loop-rest .inv) (c .new .ensures .items) (c .new-2 .ensures) (c .loop-rest-test .ensures tt) refl (c .tally-line .ensures)
+returns c = all-played (c .loop-rest .inv) (c .new .ensures .items) (c .new-2 .ensures) (c .loop-rest-test .ensures tt)
