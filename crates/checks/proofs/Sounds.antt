@@ -45,6 +45,7 @@ sound-is-good part good m r s f b =
 
 -- In a formed message every tag of a part is sound exactly if every one is good.
 part-tells : (part : Part) (good : Good) (m : Msg) → Formed m → Decides (part-genuine part good m) (Part-sound part good m)
+unfolding Part-sound
 part-tells part good m f = (
   (λ e b i. sound-formed part good m b f i (part-means part good m .0 e b i)),
   (λ s. part-means part good m .1 (λ b i. s b i .is-good)),
@@ -60,6 +61,11 @@ formed-tells good m f = (
 pub sound-is-genuine : (good : Good) (m : Msg) (r : Bool) → Decides r (All-sound good m) → Tells-genuine good m r
 sound-is-genuine good m r d f = let t = formed-tells good m f in same-test r (genuine good m) (λ e. t .1 (d .0 e)) (λ e. d .1 (t .0 e))
 
+-- Where every tag of a part is sound, each board of the part has a sound one.
+pub sound-at : (part : Part) (good : Good) (m : Msg) (b : ℕ) → Part-sound part good m → member (boards-in part m) b ≡ true → Sound part good m b
+unfolding Part-sound
+sound-at part good m b s i = s b i
+
 -- The sound boards of a part are boards of it.
 pub sound-within : (part : Part) (good : Good) (m : Msg) (r : ℕ) → Sound-boards part good m r → Within r (boards-in part m)
 sound-within part good m r s k h e = s k .0 e .belongs
@@ -67,6 +73,7 @@ sound-within part good m r s k h e = s k .0 e .belongs
 -- Every tag of a part is sound exactly if each of its boards is a sound one.
 pub within-sound : (part : Part) (good : Good) (m : Msg) (r : ℕ) → Sound-boards part good m r
     → (Within (boards-in part m) r → Part-sound part good m) × (Part-sound part good m → Within (boards-in part m) r)
+unfolding Part-sound
 within-sound part good m r s = ((λ w b i. s b .0 (w b (member-below _ b i) i)), (λ a k h i. s k .1 (a k i)))
 
 -- Every tag of a part is sound exactly if the sound boards are the set of the part.

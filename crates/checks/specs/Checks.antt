@@ -65,7 +65,7 @@ abbrev pub Good-boards : Part → Good → Msg → ℕ → Type 0
 Good-boards part good m r = Formed m → (b : ℕ) → member r b ≡ (member (boards-in part m) b && good-in part good m b)
 
 -- Every board of a part has a sound tag in it.
-abbrev pub Part-sound : Part → Good → Msg → Type 0
+unfoldable pub Part-sound : Part → Good → Msg → Type 0
 Part-sound part good m = (b : ℕ) → member (boards-in part m) b ≡ true → Sound part good m b
 
 -- Every tag of a message is sound.

@@ -8,19 +8,8 @@ use native.Mathlib.Omega.{arith}
 use lib.Dec.{eqb, ltb}
 use lib.Count.{ones, leadingZeros}
 use Rattle.std.proofs.shelf.Tests.{and-parts, cases-eq, eqb-true, ltb-true, or-cases, both-ways, not-true, eq-eqb}
-use Rattle.boards.specs.Boards.{only}
-
--- a test passes at each number below n, computed
-every : (ℕ → Bool) → ℕ → Bool
-every f zero = true
-every f (suc n) = every f n && f n
-
-at-every : (f : ℕ → Bool) (n : ℕ) → every f n ≡ true → (k : ℕ) → k < n → f k ≡ true
-unfolding every
-at-every f zero e k h = absurd (omega arith)
-at-every f (suc n) e k h =
-    let p = and-parts (every f n) (f n) e in
-    ⊎-elim (λ same. ap f same ∙ p .1) (λ other. at-every f n (p .0) k (omega arith)) (cases-eq k n)
+use Rattle.boards.specs.Boards.{only, every}
+use Rattle.boards.proofs.Chosen.{every-at}
 
 known : ℕ → Bool
 known s = not (eqb (ones s) 1) || (eqb s (128 / 2 ^ leadingZeros 8 s) && ltb (leadingZeros 8 s) 8)
@@ -32,6 +21,6 @@ all-known = refl
 pub one-board : (s : ℕ) → s < 256 → ones s ≡ 1 → (s ≡ only (leadingZeros 8 s)) × (leadingZeros 8 s < 8)
 unfolding known only
 one-board s h e =
-    let k = at-every known 256 all-known s h in
+    let k = every-at known 256 s all-known h in
     ⊎-elim (λ n. absurd (both-ways (eqb (ones s) 1) (not-true _ n) (eq-eqb _ _ e)))
     (λ y. let p = and-parts _ _ y in (eqb-true _ _ (p .0), ltb-true _ _ (p .1))) (or-cases (not (eqb (ones s) 1)) (eqb s (128 / 2 ^ leadingZeros 8 s) && ltb (leadingZeros 8 s) 8) k)

@@ -1,6 +1,5 @@
--- A tag that is there, with the words of what it stands for, is sound exactly if the scheme finds it good.
--- Where one of these is not had, the tag is not sound: the search closes that.
-use mathlib.Core.Path.{_∙_}
+-- A tag that is there is sound exactly if it holds for what it stands for.
+-- Where it or its statement is not had, it is not sound: the search closes that.
 use Prim.Native.Nat.{_^_, _<_}
 use native.Mathlib.Omega.{arith}
 use Rattle.wire.specs.Messages.{meaning}
@@ -11,7 +10,7 @@ use Rattle.checks.proofs.is_sound.Needs as need
 pub returns : need.returns
 returns g c =
     let s = c .in-Some .ensures tt in
-    let w = c .in-Some-words .ensures tt in
-    let small : c .in-Some-tag-in .tag < 2 ^ 64 = omega arith in
-    decided (c .args .part) (g .S·Scheme .good (c .args .scheme .now)) (meaning (c .args .m .now)) (c .args .board) (said (c .in-Some .said)) (c .as-slice .result .now) (c .in-Some-tag-in .tag) (c .check .result)
-    (s .0) (s .1) (w .0) (c .as-slice .ensures ∙ w .1) (c .in-Some-tag-in .ensures tt .1) small (c .check .ensures)
+    let x = c .in-Some-tag-in .tag in
+    let small : x < 2 ^ 64 = omega arith in
+    decided (c .args .part) (g .S·Scheme .good (c .args .scheme .now)) (meaning (c .args .m .now)) (c .args .board) (said (c .in-Some .act)) x (c .holds .result)
+    (s .0) (s .1) (c .in-Some-tag-in .ensures tt .1) small (c .holds .ensures)
