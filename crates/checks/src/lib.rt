@@ -7,12 +7,12 @@ ghost use Rattle.checks.specs.Parts.{Boards-are, Decided, Stands-for, Stated-i
 ghost use Rattle.words.specs.Said.{said};
 use boards::Set;
 use schemes::Scheme;
-use wire::message::Message;
 use signed::proof;
 use signed::proof_tag;
 use signed::signers;
 use signed::statement;
 use signed::tag;
+use wire::message::Message;
 use words::statement::Statement;
 
 // The two parts of a message that have tags: its signers', and those of the proof that lasts and suggest-lasts carry.

@@ -18,7 +18,7 @@ use Rattle.boards.specs.Boards.{size, member, place}
 use Rattle.boards.proofs.Sets.{size-le, place-last}
 use Rattle.grammar.specs.Bits.{bitsOf, bits}
 use Rattle.grammar.specs.Grammar.{Grammar, Item, After, spell}
-use Rattle.grammar.proofs.Bits.{low}
+use Rattle.grammar.proofs.Bits.{low, bits-append}
 use Rattle.wire.specs.declared.message.Tags.{Tags}
 use Rattle.wire.specs.declared.message.Entries.{Entries}
 use Rattle.wire.specs.Fields.{entries}
@@ -31,8 +31,9 @@ use Rattle.layout.specs.Heads.{Goes, Holds, Heads}
 use Rattle.layout.specs.Measures.{Bytes, Measured, Tagged, Even, reply-of, Gathers}
 use Rattle.layout.specs.Layouts.{Fronts, Whole, head-bytes, entry-byte, replies-bytes}
 use Rattle.layout.proofs.Rests.{un-raw, join, cut, front, clash}
-use Rattle.layout.proofs.Joins.{beside, spell-append}
-use Rattle.layout.proofs.Packed.{bits-append, bytes, head-bits}
+use Rattle.grammar.proofs.Cuts.{spell-append}
+use Rattle.layout.proofs.Joins.{beside}
+use Rattle.layout.proofs.Packed.{bytes, head-bits}
 use Rattle.layout.proofs.Replies.{all-listed, listed-long, replies-listed, tag-long}
 
 pub whole : {h : Head} (w : ℕ) → h .width ≡ w → h .number < 2 ^ w → w % 8 ≡ 0 → 8 ≤ w → w ≤ 32 → Whole h

@@ -13,6 +13,7 @@ use Rattle.grammar.specs.Bits.{bitsOf, bits}
 use Rattle.grammar.specs.Grammar.{Grammar, Item, spell, written}
 use Rattle.wire.specs.Format.{message, body}
 use Rattle.grammar.proofs.Bits.{parts, low}
+use Rattle.grammar.proofs.Cuts.{spell-append}
 use Rattle.layout.specs.declared.plan.Head.{Head}
 use Rattle.layout.specs.Heads.{Goes, Holds, Heads}
 use Rattle.layout.proofs.Rests.{goes-on}
@@ -22,11 +23,6 @@ pub beside : (a b x y : ℕ) → bitsOf (a + b) (x * 2 ^ b + y % 2 ^ b) ≡ bits
 beside a b x y =
     let h = mod-below y (2 ^ b) (pow-pos b) in
     parts a b (x * 2 ^ b + y % 2 ^ b) ∙ (λ i. bitsOf a (shr-high x b (y % 2 ^ b) h i) ++ low b (x * 2 ^ b + y % 2 ^ b) y (mod-low x b (y % 2 ^ b) h) i)
-
-pub spell-append : (is js : List Item) → spell (is ++ js) ≡ spell is ++ spell js
-unfolding spell
-spell-append [] js = refl
-spell-append (i ∷ is) js = ap (λ l. written i ++ l) (spell-append is js) ∙ sym (append-assoc (written i) (spell is) (spell js))
 
 pub spell-num : (w v : ℕ) → spell (Item.num w v ∷ []) ≡ bitsOf w v
 unfolding spell

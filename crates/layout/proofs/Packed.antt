@@ -1,5 +1,5 @@
 -- Bytes and their bits.
--- Bytes whose bits are the written form of items are those items packed; a head's bytes have its bits.
+-- A byte and a run of bytes as items; a head's bytes have its bits.
 use mathlib.Core.Path.{_≡_, refl, sym, ap, subst, _∙_}
 use mathlib.Core.List.{List, [], _∷_, _++_}
 use Prim.Native.Nat.{ℕ, _+_, _*_, _/_, _%_, _^_, _<_, _≤_}
@@ -10,21 +10,9 @@ use Rattle.std.proofs.shelf.Lists.{append-assoc, append-nil}
 use Rattle.grammar.specs.Bits.{bitsOf, bits, bytesOf}
 use Rattle.grammar.specs.Grammar.{Item, spell}
 use Rattle.grammar.proofs.Bits.{length-bitsOf, length-bits, bytes-bits, bits-bytes, bytes-fit, length-bytesOf}
-use Rattle.wire.specs.Format.{packed}
 use Rattle.layout.specs.declared.plan.Head.{Head}
 use Rattle.layout.specs.Measures.{Bytes}
 use Rattle.layout.specs.Layouts.{head-bytes, Whole}
-
-pub bits-append : (xs ys : List ℕ) → bits (xs ++ ys) ≡ bits xs ++ bits ys
-unfolding bits
-bits-append [] ys = refl
-bits-append (x ∷ xs) ys = ap (λ l. bitsOf 8 x ++ l) (bits-append xs ys) ∙ sym (append-assoc (bitsOf 8 x) (bits xs) (bits ys))
-
-pub packed-is : (bs : List ℕ) (is : List Item) → bits bs ≡ spell is → Bytes bs → bs ≡ packed is
-unfolding packed
-packed-is bs is e a =
-    let n : length (spell is) / 8 ≡ length bs = omega (arith, ap length e, length-bits bs) in
-    sym ((λ i. bytesOf (n i) (sym e i)) ∙ ap (bytesOf (length bs)) (sym (append-nil (bits bs))) ∙ bytes-bits bs [] a)
 
 pub byte : (v : ℕ) → bits (v ∷ []) ≡ spell (Item.num 8 v ∷ [])
 unfolding bits spell

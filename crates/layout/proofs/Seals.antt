@@ -28,8 +28,10 @@ use Rattle.layout.specs.Heads.{Goes}
 use Rattle.layout.specs.Measures.{Bytes, Measured}
 use Rattle.layout.specs.Layouts.{Fronts, Lays, Sealed, head-bytes, middle-bytes, layout-bytes}
 use Rattle.layout.proofs.Rests.{un-num, un-raw, join, cut, front, clash}
-use Rattle.layout.proofs.Joins.{spell-append}
-use Rattle.layout.proofs.Packed.{bits-append, packed-is, byte, bytes, head-fit, head-long}
+use Rattle.grammar.proofs.Bits.{bits-append}
+use Rattle.grammar.proofs.Cuts.{spell-append}
+use Rattle.wire.proofs.Packed.{packed-is}
+use Rattle.layout.proofs.Packed.{byte, bytes, head-fit, head-long}
 
 -- a set and its tags, as bits
 sealing : (s : ℕ) (t : List ℕ) → bits (s ∷ t) ≡ spell (set-values s t)
@@ -55,7 +57,7 @@ lays h m s t is ok n f e low o k l b =
     let fit : Bytes (hs ++ (ms ++ (s .bits ∷ ts))) = all-append _ hs (ms ++ (s .bits ∷ ts)) (head-fit h) (all-append _ ms (s .bits ∷ ts) (f .fit) (low, b)) in
     record {
       allowed = join (allowed f e) (After.then-num low o (After.then-raw (l ∙ sym k) b After.start));
-      form = packed-is _ _ form fit;
+      form = packed-is _ _ fit form;
       whole = f .whole;
       short = simp length-append (omega (arith, head-long h, f .whole .most, f .short e, l, size-le (s .bits)));
       even = f .even e;

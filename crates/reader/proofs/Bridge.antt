@@ -18,22 +18,10 @@ use Rattle.grammar.specs.declared.fault.Layer.the-variants.{Bytes, Field}
 use Rattle.grammar.specs.declared.fault.Fault.{Fault}
 use Rattle.grammar.specs.Bits.{bitsOf, numberOf, bits, bytesOf}
 use Rattle.grammar.specs.Grammar.{Grammar, Item, outcome, more, fault}
-use Rattle.grammar.proofs.Bits.{length-bitsOf, length-bits, number-bits, bytes-bits, parts, low}
+use Rattle.grammar.proofs.Bits.{length-bitsOf, length-bits, number-bits, bytes-bits, parts, low, bits-append, drop-bits}
 use Rattle.grammar.proofs.Steps.{field-short, field-bad, field-good, part-short, part-good, done-good, done-over}
 use Rattle.reader.specs.declared.place.Reader.{Reader}
 use Rattle.reader.specs.Places.{at, src, met, pair, field-at, Got, Read, Part, Found, Cut}
-
-pub bits-append : (xs ys : List ℕ) → bits (xs ++ ys) ≡ bits xs ++ bits ys
-unfolding bits
-bits-append [] ys = refl
-bits-append (x ∷ xs) ys = ap (λ l. bitsOf 8 x ++ l) (bits-append xs ys) ∙ sym (append-assoc (bitsOf 8 x) (bits xs) (bits ys))
-
-pub drop-bits : (q : ℕ) (bs : List ℕ) → drop (8 * q) (bits bs) ≡ bits (drop q bs)
-unfolding bits
-drop-bits zero bs = refl
-drop-bits (suc q) [] = drop-nil (8 * suc q)
-drop-bits (suc q) (b ∷ bs) =
-    ap (λ m. drop m (bitsOf 8 b ++ bits bs)) (omega (arith, length-bitsOf 8 b)) ∙ drop-append-add (bitsOf 8 b) (bits bs) (8 * q) ∙ drop-bits q bs
 
 -- the w bits from bit r on of a number of 16 bits
 cut : (r w n : ℕ) (rest : List Bool) → r + w ≤ 16 → take w (drop r (bitsOf 16 n ++ rest)) ≡ bitsOf w (n / 2 ^ (16 - (r + w)))

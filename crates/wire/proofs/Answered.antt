@@ -19,7 +19,7 @@ use Rattle.grammar.specs.declared.fault.Layer.the-variants.{Bytes, Field}
 use Rattle.grammar.specs.declared.fault.Fault.{Fault}
 use Rattle.grammar.specs.Bits.{bits, bitsOf}
 use Rattle.grammar.specs.Grammar.{Grammar, Item, After, Stands, First, Left, fault, spell}
-use Rattle.grammar.proofs.Bits.{length-bits, length-bitsOf}
+use Rattle.grammar.proofs.Bits.{length-bits, length-bitsOf, bits-append, bits-take}
 use Rattle.grammar.proofs.Lawful.{one-or-other, single}
 use Rattle.grammar.proofs.Cuts.{cut, over, over-or-short, field-fault}
 use Rattle.wire.specs.Messages.{Msg}
@@ -32,19 +32,6 @@ use Rattle.wire.proofs.Widths.{whole, whole-words}
 use Rattle.wire.proofs.Tells.{same-message, same-act}
 use Rattle.wire.proofs.Spelt.{spelt}
 use Rattle.wire.proofs.Signs.{signed-allowed, proved-allowed, words-long}
-
--- The bits of the first bytes are the first bits.
-pub bits-take : (k : ℕ) (xs : List ℕ) → bits (take k xs) ≡ take (8 * k) (bits xs)
-unfolding bits
-bits-take zero xs = refl
-bits-take (suc k) [] = sym (take-nil (8 * suc k))
-bits-take (suc k) (x ∷ xs) =
-    ap (λ l. bitsOf 8 x ++ l) (bits-take k xs) ∙ sym (ap (λ m. take m (bitsOf 8 x ++ bits xs)) (omega (arith, length-bitsOf 8 x)) ∙ take-append-add (bitsOf 8 x) (bits xs) (8 * k))
-
-pub bits-append : (xs ys : List ℕ) → bits (xs ++ ys) ≡ bits xs ++ bits ys
-unfolding bits
-bits-append [] ys = refl
-bits-append (x ∷ xs) ys = ap (λ l. bitsOf 8 x ++ l) (bits-append xs ys) ∙ sym (append-assoc (bitsOf 8 x) (bits xs) (bits ys))
 
 -- The fields of a formed message stand in its bytes.
 pub stands : (m : Msg) → Formed m → Stands message (values m) (bits (form m))

@@ -14,7 +14,7 @@ use Rattle.std.proofs.shelf.Lists.{append-assoc, append-nil}
 use Rattle.std.proofs.shelf.Elements.{all-take, all-append}
 use Rattle.grammar.specs.Bits.{bits, bitsOf}
 use Rattle.grammar.specs.Grammar.{Grammar, Item, After, spell}
-use Rattle.grammar.proofs.Bits.{length-bits, length-bitsOf}
+use Rattle.grammar.proofs.Bits.{length-bits, length-bitsOf, bits-take, bits-append}
 use Rattle.grammar.proofs.Cuts.{spell-append}
 use Rattle.grammar.proofs.Held.{held, onward, front-after}
 use Rattle.head.specs.declared.number.Head.{Head}
@@ -24,7 +24,6 @@ use Rattle.wire.specs.Reads.{Byte-list}
 use Rattle.wire.specs.Acts.{Act, Allowed, words, signed, signed-values}
 use Rattle.wire.proofs.Packed.{packed-is}
 use Rattle.wire.proofs.Signs.{payload-le}
-use Rattle.wire.proofs.Answered.{bits-take, bits-append}
 use Rattle.words.specs.declared.statement.Statement.the-variants.{Init, Echo}
 use Rattle.words.specs.Said.{said}
 use Rattle.words.specs.Openings.{Carried, Put, Stated, load}

@@ -10,17 +10,10 @@ use Rattle.std.proofs.shelf.Lists.{append-nil}
 use Rattle.std.proofs.shelf.Elements.{all-take}
 use Rattle.std.proofs.shelf.Bits.{shl-shr, mod-below}
 use Rattle.grammar.specs.Bits.{bitsOf, bits, bytesOf}
-use Rattle.grammar.proofs.Bits.{parts, low, length-bitsOf, bytes-bits}
+use Rattle.grammar.proofs.Bits.{parts, low, length-bitsOf, bytes-bits, bits-take}
 use Rattle.layout.specs.declared.plan.Head.{Head}
 use Rattle.layout.specs.Measures.{Bytes}
 use Rattle.layout.specs.Layouts.{head-bytes, Whole}
-
-take-bits : (k : ℕ) (xs : List ℕ) → bits (take k xs) ≡ take (8 * k) (bits xs)
-unfolding bits
-take-bits zero xs = refl
-take-bits (suc k) [] = sym (take-nil (8 * suc k))
-take-bits (suc k) (x ∷ xs) =
-    ap (λ l. bitsOf 8 x ++ l) (take-bits k xs) ∙ sym (ap (λ m. take m (bitsOf 8 x ++ bits xs)) (omega (arith, length-bitsOf 8 x)) ∙ take-append-add (bitsOf 8 x) (bits xs) (8 * k))
 
 one-byte : (y : ℕ) → bitsOf 8 (y % 256) ≡ bitsOf 8 y
 one-byte y = let e : y % 256 % 256 ≡ y % 256 = omega arith in low 8 (y % 256) y e
@@ -52,6 +45,6 @@ head-is h x w d =
     let wide : 8 * k ≡ h .width = omega (arith, w .eights) in
     let z : h .width + (32 - h .width) ≡ 32 = omega (arith, w .most) in
     let form : bits part ≡ bitsOf (h .width) (h .number) =
-    take-bits k (four x) ∙ ap (λ j. take j (bits (four x))) wide ∙ ap (take (h .width)) (four-bits x) ∙ top (h .number) (h .width) (32 - h .width) x z d in
+    bits-take k (four x) ∙ ap (λ j. take j (bits (four x))) wide ∙ ap (take (h .width)) (four-bits x) ∙ top (h .number) (h .width) (32 - h .width) x z d in
     let long : length part ≡ k = length-take-le k (four x) (omega (arith, w .most)) in
     sym (bytes-bits part [] (all-take _ k (four x) (four-fit x))) ∙ (λ i. bytesOf (long i) ((append-nil (bits part) ∙ form) i))
