@@ -37,7 +37,7 @@ pub fn of_group(m: &Message<'_>) -> bool
 }
 
 // Whether the row signs when it takes the message.
-pub(crate) fn answered(m: &Message<'_>) -> bool
+pub fn answered(m: &Message<'_>) -> bool
     ensures { λ r. ⌜ r ≡ answered (meaning (now (m .entry))) ⌝ }
 {
     match *m {

@@ -1,8 +1,9 @@
 // What a row has in a new view: nothing voted and nothing counted.
 // Rules: docs/RULES.md, "The row".
 ghost use mathlib.Core.Path.{_≡_};
-ghost use mathlib.Core.Bool.{true};
-ghost use Rattle.boards.specs.Boards.{size};
+ghost use mathlib.Core.Bool.{true, false};
+ghost use Prim.Native.Nat.{ℕ};
+ghost use Rattle.boards.specs.Boards.{member, size};
 ghost use Rattle.row.specs.States.{latest-members, new-voter, new-leader};
 ghost use Rattle.row.specs.Rows.{keeps, tells, proves};
 use crate::state::Count;
@@ -35,6 +36,7 @@ pub(crate) fn latest_view(views: &Views) -> View
 pub(crate) fn voter(view: &View) -> Voter
     ensures is { λ r. ⌜ r ≡ new-voter (size (now (view .entry) .set .bits)) ⌝ }
     ensures keeps { λ r. ⌜ keeps r ≡ true ⌝ }
+    ensures trusts { λ r. ⌜ ((b : ℕ) → member (r .suspects .bits) b ≡ false) ⌝ }
 {
     Voter {
         floor: 3 * view.len(),

@@ -1,7 +1,8 @@
 // A row: a state with what every row keeps, and the questions about it that every caller may ask.
 // Rules: docs/RULES.md, "The row". What every row keeps: specs/Rows.antt.
 ghost use mathlib.Core.Path.{_≡_};
-ghost use mathlib.Core.Bool.{true};
+ghost use mathlib.Core.Bool.{true, false};
+ghost use Rattle.boards.specs.Boards.{member};
 ghost use Prim.Native.Nat.{_<_, _≤_};
 ghost use Rattle.std.specs.Results.{Cases};
 ghost use Rattle.codes.specs.declared.Refusal.the-variants.{Board};
@@ -27,6 +28,7 @@ pub struct Row {
     ghost keeps: { keeps (state .voter) ≡ true },
     ghost tells: { tells (state .leader) ≡ true },
     ghost proves: { proves (state .leader) ≡ true },
+    ghost trusts: { member (state .voter .suspects .bits) (state .board) ≡ false },
 }
 
 impl Row {

@@ -1,0 +1,3 @@
+-- The words of voting.
+-- Votes: what a vote leaves of the voter.
+pub mod Votes
