@@ -23,9 +23,9 @@ use row::state::Leader;
 use row::state::Sent;
 use row::state::Stand;
 use sending::post;
+use signed::tag;
 use wire::message::Message;
 use wire::message::Tags;
-use signed::tag;
 
 // Nothing is sent.
 fn silent() -> Sent

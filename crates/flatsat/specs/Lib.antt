@@ -1,3 +1,4 @@
 -- The words of the contracts of the program.
--- One file: what a script answers.
+-- Audits: whose tags are good. Plays: what a script answers.
+pub mod Audits
 pub mod Plays

@@ -1,4 +1,4 @@
--- Answers as text: a message, a refusal by its code, or what is wrong with the line, each after the line's number.
+-- Answers as text: a message, with its audit if it has one, a refusal by its code, or what is wrong with the line, each after the line's number.
 -- The last line of a script counts its calls by their answers.
 use mathlib.Core.Path.{_≡_}
 use mathlib.Core.List.{List, [], _∷_, _++_}
@@ -12,11 +12,12 @@ use Rattle.codes.specs.declared.Refusal.{Refusal}
 use Rattle.codes.specs.Codes.{number-of, name-of, fault-of, layer-name-of}
 use Rattle.wire.specs.Messages.{meaning}
 use Rattle.script.specs.declared.answer.Reason.{Reason}
-use Rattle.script.specs.declared.answer.Reason.the-variants.{NotText, UnknownCall, TooFewWords, TooManyWords, NotHexadecimal, OddDigits}
+use Rattle.script.specs.declared.answer.Reason.the-variants.{NotText, UnknownCall, TooFewWords, TooManyWords, NotHexadecimal, OddDigits, NotEightKeys}
 use Rattle.script.specs.declared.answer.Answer.{Answer}
-use Rattle.script.specs.declared.answer.Answer.the-variants.{Heard, Refused, Wrong}
+use Rattle.script.specs.declared.answer.Answer.the-variants.{Heard, Audited, Kept, Refused, Wrong}
 use Rattle.script.specs.declared.tally.Tally.{Tally}
 use Rattle.script.specs.Shown.{shown}
+use Rattle.script.specs.Audits.{audit-text}
 
 -- What is wrong with a line, in plain words.
 abbrev pub reason-text : Reason → List ℕ
@@ -26,6 +27,7 @@ reason-text TooFewWords = codes "too few words"
 reason-text TooManyWords = codes "too many words"
 reason-text NotHexadecimal = codes "not hexadecimal"
 reason-text OddDigits = codes "odd number of digits"
+reason-text NotEightKeys = codes "not 256 digits"
 
 -- A fault: its layer and its place.
 abbrev pub fault-text : Option Fault → List ℕ
@@ -39,6 +41,8 @@ refusal-text r = decimal (number-of r) ++ 32 ∷ (name-of r ++ fault-text (fault
 -- An answer.
 abbrev pub answer-text : Answer → List ℕ
 answer-text (Heard m) = shown (meaning m)
+answer-text (Audited m a) = shown (meaning m) ++ audit-text a
+answer-text Kept = codes "ok"
 answer-text (Refused r) = codes "refused " ++ refusal-text r
 answer-text (Wrong r) = codes "error " ++ reason-text r
 
@@ -51,9 +55,15 @@ abbrev pub tally-line : Tally → List ℕ
 tally-line t =
     decimal (t .ok + t .refused + t .wrong) ++ (codes " calls: " ++ (decimal (t .ok) ++ (codes " ok, " ++ (decimal (t .refused) ++ (codes " refused, " ++ (decimal (t .wrong) ++ (codes " error" ++ 10 ∷ [])))))))
 
+-- Tally u is tally t with one more call that went well.
+abbrev pub One-ok : Tally → Tally → Type 0
+One-ok t u = (u .ok ≡ t .ok + 1) × (u .refused ≡ t .refused) × (u .wrong ≡ t .wrong)
+
 -- Tally u is tally t with one more answer.
 abbrev pub One-more : Tally → Answer → Tally → Type 0
-One-more t (Heard m) u = (u .ok ≡ t .ok + 1) × (u .refused ≡ t .refused) × (u .wrong ≡ t .wrong)
+One-more t (Heard m) u = One-ok t u
+One-more t (Audited m a) u = One-ok t u
+One-more t Kept u = One-ok t u
 One-more t (Refused r) u = (u .ok ≡ t .ok) × (u .refused ≡ t .refused + 1) × (u .wrong ≡ t .wrong)
 One-more t (Wrong r) u = (u .ok ≡ t .ok) × (u .refused ≡ t .refused) × (u .wrong ≡ t .wrong + 1)
 

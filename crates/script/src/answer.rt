@@ -1,8 +1,9 @@
-// Answers as lines: a message that was heard, a refusal, or what is wrong with the line of the script.
+// Answers as lines: a message that was heard, keys that are kept, a refusal, or what is wrong with the line of the script.
 // The texts: specs/Outcomes.antt.
 ghost use mathlib.Core.Path.{_≡_};
 ghost use Rattle.script.specs.Lines.{Wrote, Adds};
 ghost use Rattle.script.specs.Outcomes.{reason-text, refusal-text, answer-text, answer-line, tally-line};
+use crate::audit::Audit;
 use crate::line::Line;
 use crate::tally::Tally;
 use codes::Refusal;
@@ -19,12 +20,15 @@ pub enum Reason {
     TooManyWords,
     NotHexadecimal,
     OddDigits,
+    NotEightKeys,
 }
 
 // What a line of the script is answered.
 #[derive(Clone, Copy)]
 pub enum Answer<'a> {
     Heard(Message<'a>),
+    Audited(Message<'a>, Audit),
+    Kept,
     Refused(Refusal),
     Wrong(Reason),
 }
@@ -40,6 +44,7 @@ fn reason_text(reason: Reason) -> &'static str
         Reason::TooManyWords => "too many words",
         Reason::NotHexadecimal => "not hexadecimal",
         Reason::OddDigits => "odd number of digits",
+        Reason::NotEightKeys => "not 256 digits",
     }
 }
 
@@ -66,6 +71,8 @@ impl Line {
     {
         match answer {
             Answer::Heard(message) => self.message(message),
+            Answer::Audited(message, audit) => self.message(message).audit(audit),
+            Answer::Kept => self.text("ok"),
             Answer::Refused(refusal) => self.text("refused ").refusal(refusal),
             Answer::Wrong(reason) => self.text("error ").text(reason_text(reason)),
         }

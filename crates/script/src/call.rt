@@ -3,7 +3,7 @@
 ghost use mathlib.Core.Path.{_≡_};
 ghost use lib.Chars.{codes};
 ghost use Rattle.script.specs.Words.{body};
-ghost use Rattle.script.specs.Calls.{Named, One-word, Argument-read, Parses};
+ghost use Rattle.script.specs.Calls.{Named, One-word, Argument-read, Argument-keys, Parses};
 use crate::answer::Reason;
 use crate::parts::first;
 use crate::words::Until;
@@ -11,16 +11,18 @@ use crate::words::body;
 use crate::words::front;
 use crate::words::next_word;
 
-// A call: `read` has the hexadecimal digits of the bytes to read.
+// A call: `read` has the hexadecimal digits of the bytes to read, `keys` those of the eight boards' keys.
 #[derive(Clone, Copy)]
 pub enum Call<'a> {
     Read(&'a [u8]),
+    Keys(&'a [u8]),
 }
 
 // The names of calls.
 #[derive(Clone, Copy)]
 pub(crate) enum Verb {
     Read,
+    Keys,
 }
 
 // The call that a word names.
@@ -29,6 +31,8 @@ fn named(word: &[u8]) -> Option<Verb>
 {
     if word == b"read" {
         Some(Verb::Read)
+    } else if word == b"keys" {
+        Some(Verb::Keys)
     } else {
         None
     }
@@ -63,6 +67,18 @@ fn digits(word: &[u8]) -> Result<&[u8], Reason>
     Ok(word)
 }
 
+// The digits of eight keys of 16 bytes each.
+fn key_digits(word: &[u8]) -> Result<&[u8], Reason>
+    ensures { λ r. ⌜ Argument-keys (now (word .entry)) r ⌝ }
+{
+    let digits = digits(word)?;
+    if digits.len() == 256 {
+        Ok(digits)
+    } else {
+        Err(Reason::NotEightKeys)
+    }
+}
+
 // The call of what a line says; none if it says nothing.
 fn said(text: &[u8]) -> Result<Option<Call<'_>>, Reason>
     ensures { λ r. ⌜ Parses (now (text .entry)) r ⌝ }
@@ -73,9 +89,13 @@ fn said(text: &[u8]) -> Result<Option<Call<'_>>, Reason>
     let Some((name, rest)) = next_word(text) else {
         return Ok(None);
     };
-    match named(name) {
-        Some(Verb::Read) => Ok(Some(Call::Read(digits(one_word(rest)?)?))),
-        None => Err(Reason::UnknownCall),
+    let Some(verb) = named(name) else {
+        return Err(Reason::UnknownCall);
+    };
+    let word = one_word(rest)?;
+    match verb {
+        Verb::Read => Ok(Some(Call::Read(digits(word)?))),
+        Verb::Keys => Ok(Some(Call::Keys(key_digits(word)?))),
     }
 }
 

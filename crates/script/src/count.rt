@@ -35,7 +35,7 @@ impl Tally {
         let Tally { ok, refused, wrong } = self;
         Some(
             match answer {
-                Answer::Heard(_) => Tally {
+                Answer::Heard(_) | Answer::Audited(_, _) | Answer::Kept => Tally {
                     ok: ok + 1,
                     refused,
                     wrong,

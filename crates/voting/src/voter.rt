@@ -14,9 +14,9 @@ use row::state::Count;
 use row::state::Kept;
 use row::state::Voter;
 use seats::set_of;
+use signed::tag;
 use wire::message::Entry;
 use wire::message::Message;
-use signed::tag;
 
 // The voter with a lower floor.
 pub(crate) fn lowered(voter: &Voter, floor: u8) -> Voter

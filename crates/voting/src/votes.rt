@@ -32,9 +32,9 @@ use seats::called_for;
 use seats::seat;
 use sending::say;
 use sending::speak;
+use signed::lowest_entry;
 use wire::message::Entry;
 use wire::message::Message;
-use signed::lowest_entry;
 use words::statement::Statement;
 
 // An ack, a ready and a last in the latest view.

@@ -1,12 +1,13 @@
 -- The lines of a script, one after another.
 -- The laws are in Turns.
+use mathlib.Core.Path.{refl}
 use native.Mathlib.Omega.{arith}
 use lib.ListN.{length}
 use Rattle.flatsat.proofs.Turns.{going-none, going-more, less, some-bytes, all-played}
 use Rattle.flatsat.proofs.play.lines.Needs as need
 
 pub loop-rest-holds : need.loop-rest-holds
-loop-rest-holds c = going-none _ _ _
+loop-rest-holds c = going-none _ _
 
 pub loop-rest-again : need.loop-rest-again
 loop-rest-again c =
@@ -20,4 +21,5 @@ line-requires c κs =
     omega (arith, c .loop-rest .inv .few, some-bytes (length (c .loop-rest .rest .now)) (c .loop-rest-test .ensures tt), c .new-2 .ensures .0, c .new-2 .ensures .1, c .new-2 .ensures .2)
 
 pub returns : need.returns
-returns c = all-played (c .loop-rest .inv) (c .new .ensures .items) (c .new-2 .ensures) (c .loop-rest-test .ensures tt)
+returns c =
+    all-played (c .loop-rest .inv) (record { no-text = c .new .ensures .items; no-answer = c .new-2 .ensures; no-keys = refl }) (c .loop-rest-test .ensures tt)

@@ -1,12 +1,12 @@
 -- What was played goes on with what is left of the script.
 -- Each turn leaves less of it.
 use lib.ListN.{length}
-use Rattle.std.specs.Of.Vec.{vec-items}
+use Rattle.flatsat.specs.Plays.{state-of}
 use Rattle.flatsat.proofs.Turns.{Going}
 use Rattle.flatsat.proofs.play.lines.Given as given
 
 abbrev pub Inv-loop-rest : given.InvT-loop-rest
-Inv-loop-rest l = Going (l .entry .rest) (vec-items (l .entry .page .text)) (l .entry .page .tally) (l .rest) (vec-items (l .page .text)) (l .page .tally)
+Inv-loop-rest l = Going (l .entry .rest) (state-of (l .entry .page)) (l .rest) (state-of (l .page))
 
 abbrev pub μ-loop-rest : given.MeasureT-loop-rest
 μ-loop-rest l = length (l .rest)

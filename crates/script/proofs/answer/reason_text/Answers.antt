@@ -12,3 +12,6 @@ returns-in-TooFewWords c = sym (ap reason-text (c .in-TooFewWords .is))
 
 pub returns-in-NotHexadecimal : need.returns-in-NotHexadecimal
 returns-in-NotHexadecimal c = sym (ap reason-text (c .in-NotHexadecimal .is))
+
+pub returns-in-NotEightKeys : need.returns-in-NotEightKeys
+returns-in-NotEightKeys c = sym (ap reason-text (c .in-NotEightKeys .is))
