@@ -1,5 +1,7 @@
 // Whether a row takes a message that it hears: first the cheap reasons, then the tags, then the scheme.
 // Order: docs/REFUSALS.md. A value that no bytes spell, and a message of another layer, have no answer here.
+#![tactic(auto)]
+
 ghost use Rattle.wire.specs.Messages.{meaning};
 ghost use Rattle.admission.specs.Judged.{Judged};
 

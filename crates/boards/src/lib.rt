@@ -1,5 +1,7 @@
 // Sets of the eight boards in one byte, the top bit for board 0: members, size, ranks by rising board number.
 // Every call takes any board number; one above 7 is in no set. Words of the contracts: specs/Boards.antt.
+#![tactic(auto)]
+
 ghost use Rattle.std.specs.Prelude.{◌≡◌, ◌<◌, ◌≤◌, true, Decides, ◌==◌};
 ghost use Rattle.boards.specs.Boards.{member, only, size, Within, With, Without, Rank, Holder, QuorumsMeet, OneIsCorrect};
 

@@ -1,5 +1,7 @@
 // Whose tags in a message are good, and whether all are: one check for every kind of message and every scheme.
 // What a tag stands for: docs/FRAMES.md, "Signed words". Words of the contracts: specs/Checks.antt.
+#![tactic(auto)]
+
 ghost use Rattle.std.specs.Prelude.{Decides};
 ghost use Rattle.wire.specs.Messages.{meaning};
 ghost use Rattle.checks.specs.Checks.{AllSound, GenuineMeans, GoodBoards, PartSound, Sound, SoundBoards, TellsGenuine};

@@ -1,5 +1,7 @@
 // Tests of checks: one message of each sort, good and forged, through both schemes.
 // They stand in a crate of their own, so that `checks` is proved once.
+#![tactic(auto)]
+
 #[cfg(test)]
 mod tests {
     use boards::Set;

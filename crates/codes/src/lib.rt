@@ -1,5 +1,7 @@
 // Why a call is refused: seventeen codes with their numbers and names, and what FORM tells beside them.
 // Table: docs/REFUSALS.md. What number and name each code has is specs/Codes.antt.
+#![tactic(auto)]
+
 ghost use Rattle.std.specs.Prelude.{◌≡◌};
 ghost use Rattle.codes.specs.declared.Refusal.TheVariants.{Form};
 ghost use Rattle.codes.specs.Codes.{number_of, name_of, fault_of, layer_number_of, layer_name_of};

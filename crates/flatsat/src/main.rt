@@ -1,5 +1,7 @@
 // The tester's program: plays the script on standard input and prints what each call answers.
 // Format: docs/SCRIPT.md. All that it prints is the text that `play` makes; what that text is, specs/Plays.antt says.
+#![tactic(auto)]
+
 mod audit;
 mod play;
 

@@ -1,4 +1,6 @@
 // Heads: the packed fields that messages and signed words open with, put side by side in one number.
 // The struct stands in src/number.rt, building one and its bytes in src/build.rt. Words of the contracts: specs/Heads.antt.
+#![tactic(auto)]
+
 pub mod build;
 pub mod number;

@@ -1,5 +1,7 @@
 // Signature schemes: what a scheme means, and what every implementation of one must show.
 // The meaning is in specs/Meaning.antt; `register` keeps what was signed, `keyed` computes tags from keys.
+#![tactic(auto)]
+
 ghost use Rattle.std.specs.Prelude.{◌≡◌, ℕ, Bool, List};
 ghost use Rattle.schemes.specs.Meaning.{Signing, Bounded, Admits, signable, number};
 

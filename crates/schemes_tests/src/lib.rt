@@ -1,5 +1,7 @@
 // Tests of the two schemes through one function that knows only the trait.
 // They stand in a crate of their own, so that `schemes` is proved once.
+#![tactic(auto)]
+
 #[cfg(test)]
 mod tests {
     use schemes::counts::{Tagged, count_good};

@@ -1,5 +1,7 @@
 // The tester's script: lines of text to calls, and the answers of calls to lines of text.
 // Format: docs/SCRIPT.md. What each text is, byte for byte, is said in specs/.
+#![tactic(auto)]
+
 pub mod answer;
 pub mod audit;
 pub mod call;

@@ -1,5 +1,7 @@
 // Who sits where in a row's latest view: the member of a rank, the manager, and the board that an earlier rank calls for.
 // Words of the contracts: specs of crate row, States.antt and Effects.antt.
+#![tactic(auto)]
+
 ghost use Rattle.std.specs.Prelude.{◌≡◌, ◌<◌};
 ghost use Rattle.boards.specs.Boards.{only};
 ghost use Rattle.row.specs.States.{group, insert, manager, seat};

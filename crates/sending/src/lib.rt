@@ -1,5 +1,7 @@
 // Sending: a message at the front of the offered bytes, and a board's own message with a tag that it just signed.
 // Rules: docs/RULES.md, "Changing the group". What goes out: specs of crate row, Calls.antt.
+#![tactic(auto)]
+
 ghost use Rattle.std.specs.Prelude.{◌≡◌, [], Decides};
 ghost use Rattle.wire.specs.Messages.{meaning, stored_tags, tag_bytes};
 ghost use Rattle.wire.specs.Format.{Formed};

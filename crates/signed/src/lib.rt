@@ -1,5 +1,7 @@
 // The tags of a message: whose they are, what each stands for, and the tag itself.
 // Rules: docs/FRAMES.md, "Signed words". Words of the contracts: specs/Signed.antt.
+#![tactic(auto)]
+
 ghost use Rattle.std.specs.Prelude.{◌≡◌};
 ghost use Rattle.wire.specs.Messages.{meaning};
 ghost use Rattle.wire.specs.Acts.{proof_of};

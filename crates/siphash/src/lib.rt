@@ -1,5 +1,7 @@
 // SipHash-2-4: a 64-bit tag of a message of any length under a key of 16 bytes.
 // What it computes is in specs/SipHash.antt; the message is read once, in place, and nothing is allocated.
+#![tactic(auto)]
+
 ghost use Rattle.std.specs.Prelude.{◌≡◌, ◌^◌, ◌<◌, length, take, drop};
 ghost use Rattle.siphash.specs.SipHash.{little, initial, sip_round, compress, compressed, finished, last_word, parsed, siphash_2_4};
 

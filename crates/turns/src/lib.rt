@@ -1,5 +1,7 @@
 // When a row takes a message: TURN, whether a lone message is waited for; LATE, whether the row already went further; KNOWN, whether the speaker is counted.
 // Rules: docs/RULES.md, "Changing the group". What each test says: specs of crate row, Refusals.antt.
+#![tactic(auto)]
+
 ghost use Rattle.std.specs.Prelude.{◌≡◌, ◌-◌, ◌*◌};
 ghost use Rattle.wire.specs.Messages.{meaning};
 ghost use Rattle.row.specs.States.{at_rank, count_at, is_idle, awaits_acks, awaits_readies, awaits_lasts};

@@ -1,5 +1,7 @@
 // Compares the published vectors of SipHash-2-4 with what siphash computes, and prints how many are equal.
 // data/siphash-2-4.txt has a line for each: the length of the message 00 01 .., the result as bytes and as a number.
+#![tactic(auto)]
+
 ghost use Rattle.std.specs.Prelude.{◌≡◌};
 ghost use Rattle.vectors.specs.Agrees.{agrees};
 

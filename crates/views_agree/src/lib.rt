@@ -1,5 +1,7 @@
 // The boards agree on their views: the theorem over whole histories of the membership layer's calls, for any scheme.
 // Told in docs/AGREEMENT.md; the statement is specs/Agreement.antt, the argument stands in proofs/.
+#![tactic(auto)]
+
 ghost use Rattle.views_agree.specs.Agreement.{ViewsAgree};
 ghost use Rattle.views_agree.specs.Grounds.{SignedWasHanded, SomeChange};
 

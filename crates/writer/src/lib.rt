@@ -1,5 +1,7 @@
 // Writing a message at the start of the bytes offered; a refusal leaves them as they were.
 // Format: docs/FRAMES.md. What a message's bytes are: `form` in the specs of crate wire.
+#![tactic(auto)]
+
 ghost use Rattle.wire.specs.Messages.{meaning};
 ghost use Rattle.writer.specs.Writes.{Writes};
 
