@@ -6,8 +6,8 @@ use Rattle.checks.specs.Checks.{genuine}
 use Rattle.admission.proofs.Early.{early}
 use Rattle.admission.proofs.judge.Goals as goal
 
-pub returns-then-is-some : goal.returns-then-is-some
-returns-then-is-some g c =
+pub returns-then-is_some : goal.returns-then-is_some
+returns-then-is_some g c =
     let st = c.args.row.now.state in
     let m = meaning c.args.m.now in
     let s = c.args.scheme.now in

@@ -16,7 +16,7 @@ pub returns : goal.returns
 returns c =
     let rest = c.args.rest.now in
     let whole = take_all c.loop-i.i rest (omega arith) in
-    let value : c.from-le-bytes.result ≡ little rest =
-    c.from-le-bytes.ensures ∙ little_eight c.loop-i.block c.loop-i.invariant.0 ∙ ap little c.loop-i.invariant.1
+    let value : c.from_le_bytes.result ≡ little rest =
+    c.from_le_bytes.ensures ∙ little_eight c.loop-i.block c.loop-i.invariant.0 ∙ ap little c.loop-i.invariant.1
     ∙ ap (λ l. little (l ++ replicate (8 - c.loop-i.i) 0)) whole ∙ little_zeros rest (8 - c.loop-i.i) in
-    (value, subst (λ (n : ℕ). n < 2 ^ 56) (sym value) (little_below rest 7 (omega arith) (λ i. (c.type-inv.rest i).fits)))
+    (value, subst (λ (n : ℕ). n < 2 ^ 56) (sym value) (little_below rest 7 (omega arith) (λ i. (c.type_inv.rest i).fits)))

@@ -10,8 +10,8 @@ use Rattle.boards.proofs.Set.at.Goals.{then-has+else-seen-rank, else-has}
 pub loop-board-init : goal.loop-board-init
 loop-board-init c = (sym (place_first c.args.self.bits), ⊎_elim (λ z. inl z) (λ n. inr (omega arith)) (cases_eq c.args.rank 0))
 
-pub overflow-add-seen : goal.overflow-add-seen
-overflow-add-seen c = omega (arith, place_le c.args.self.bits c.loop-board.board)
+pub overflow_add-seen : goal.overflow_add-seen
+overflow_add-seen c = omega (arith, place_le c.args.self.bits c.loop-board.board)
 
 pub loop-board-preserved : goal.loop-board-preserved
 loop-board-preserved c =

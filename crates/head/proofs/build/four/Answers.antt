@@ -8,6 +8,6 @@ use Rattle.head.proofs.build.four.Goals as goal
 
 pub returns : goal.returns
 returns c = record {
-  form = ap bits c.to-be-bytes.ensures ∙ four_bytes c.args.x;
-  fit = subst (All (λ x. x < 256)) (sym c.to-be-bytes.ensures) (omega arith, (omega arith, (omega arith, (omega arith, tt))));
+  form = ap bits c.to_be_bytes.ensures ∙ four_bytes c.args.x;
+  fit = subst (All (λ x. x < 256)) (sym c.to_be_bytes.ensures) (omega arith, (omega arith, (omega arith, (omega arith, tt))));
 }

@@ -21,5 +21,5 @@ returns c =
 
 pub returns-in-err-top : goal.returns-in-err-top
 returns-in-err-top c =
-    subst (LaidSuggestLast c.args.view c.args.rank c.args.set c.args.entries c.args.proof c.args.acks) (sym c.from-residual.ensures)
+    subst (LaidSuggestLast c.args.view c.args.rank c.args.set c.args.entries c.args.proof c.args.acks) (sym c.from_residual.ensures)
     (λ a. c.in-err-top.ensures _ _ (un_num (un_num (un_num (un_num a).2).2).2).2)

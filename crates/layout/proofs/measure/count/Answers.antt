@@ -4,4 +4,4 @@ use Rattle.std.proofs.ByRecursion.{All-from_get_or}
 use Rattle.layout.proofs.measure.count.Goals as goal
 
 pub returns : goal.returns
-returns c = (c.extent.ensures, All-from_get_or _ _ 0 (λ i h. (c.type-inv.bytes i).fits))
+returns c = (c.extent.ensures, All-from_get_or _ _ 0 (λ i h. (c.type_inv.bytes i).fits))

@@ -6,7 +6,7 @@ use Rattle.boards.proofs.Sets.{size_le}
 use Rattle.views.proofs.Rule.{share_is}
 use Rattle.members.proofs.sizes.one_correct.Goals as goal
 
-pub overflow-add-result : goal.overflow-add-result
-overflow-add-result c =
+pub overflow_add-result : goal.overflow_add-result
+overflow_add-result c =
     let n = size c.view.result.set.bits in
     omega (arith, share_is n, size_le c.view.result.set.bits, c.shares.ensures.faulty)

@@ -14,8 +14,8 @@ deputise-sent-requires g c =
     let itself = ap (λ s. member s b) c.insert-suspects.ensures ∙ still_trusts w.state.voter.suspects.bits c.args.c b w.seated w.trusts c.requires.2 in
     (subst (λ x. member (group w.state) x ≡ true) (sym c.trusted-board.ensures) (trusted_member w.state c.insert-suspects.result.bits w.seated c.requires.1 itself), c.requires.3, c.requires.4)
 
-pub invariant-of-row : goal.invariant-of-row
-invariant-of-row g c =
+pub invariant_of-row : goal.invariant_of-row
+invariant_of-row g c =
     let w = c.args.row.now in
     let b = w.state.board in
     let itself = ap (λ s. member s b) c.insert-suspects.ensures ∙ still_trusts w.state.voter.suspects.bits c.args.c b w.seated w.trusts c.requires.2 in (

@@ -8,7 +8,7 @@ loop-i-init c = start c.args.n c.args.r.now c.requires
 
 pub returns-in-err-e : goal.returns-in-err-e
 returns-in-err-e c =
-    let p = err_from_is_err_and c.from-residual.result c.from-residual.ensures.1 in
+    let p = err_from_is_err_and c.from_residual.result c.from_residual.ensures.1 in
     rw (p.1, p.2) (halt c.args.n c.loop-i.-i c.loop-i.top _ (omega arith) c.loop-i.invariant c.in-err-e.ensures)
 
 pub loop-i-preserved : goal.loop-i-preserved

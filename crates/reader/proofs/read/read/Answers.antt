@@ -10,12 +10,12 @@ use Rattle.reader.proofs.read.read.Goals as goal
 
 pub returns-in-err-kind : goal.returns-in-err-kind
 returns-in-err-kind c =
-    let p = err_from_is_err_and c.from-residual.result c.from-residual.ensures.1 in
+    let p = err_from_is_err_and c.from_residual.result c.from_residual.ensures.1 in
     rw (p.1, p.2) (so _ _ (c.reader-r.ensures.on message ∙ c.in-err-kind.ensures (λ k. view (body k))))
 
 pub returns-in-err-view : goal.returns-in-err-view
 returns-in-err-view c =
-    let p = err_from_is_err_and c.from-residual-in-err-view.result c.from-residual-in-err-view.ensures.1 in
+    let p = err_from_is_err_and c.from_residual-in-err-view.result c.from_residual-in-err-view.ensures.1 in
     rw (p.1, p.2) (so _ _ (c.reader-r.ensures.on message ∙ read _ c.in-ok-kind.ensures (λ k. view (body k)) (c.in-err-view.ensures (λ _. body c.in-ok-kind.kind))))
 
 pub returns-in-1 : goal.returns-in-1

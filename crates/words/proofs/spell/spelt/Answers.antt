@@ -13,7 +13,7 @@ returns c =
     let bs = c.bytes-first.result in
     let t = take c.put-len.result c.put-len.new.out in
     let n : h.width / 8 - 0 ≡ h.width / 8 = omega arith in
-    let b = bits_of_words h bs p t c.requires c.bytes-first.ensures (All-from_get_or (λ x. x < 256) p 0 (λ i l. (c.type-inv.payload i).fits)) (two_parts c.put-at.ensures c.put-len.ensures ∙ ap (λ k. take k bs ++ p) n) in
+    let b = bits_of_words h bs p t c.requires c.bytes-first.ensures (All-from_get_or (λ x. x < 256) p 0 (λ i l. (c.type_inv.payload i).fits)) (two_parts c.put-at.ensures c.put-len.ensures ∙ ap (λ k. take k bs ++ p) n) in
     words_are h p t (not-false _ c.if-not-head.false) b
 
 pub returns-then-not-head : goal.returns-then-not-head

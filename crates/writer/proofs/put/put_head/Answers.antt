@@ -14,7 +14,7 @@ part_is h bs w e =
     (λ i. take (k i) (e i)) ∙ head_is h _ w (shl_whole h.number h.width (32 - h.width) 32 w.below (omega (arith, w.most)))
 
 pub put-requires : goal.put-requires
-put-requires c = omega (arith, ap length (part_is c.args.head _ c.requires.0 c.to-be-bytes-bytes.ensures), c.requires.1)
+put-requires c = omega (arith, ap length (part_is c.args.head _ c.requires.0 c.to_be_bytes-bytes.ensures), c.requires.1)
 
 pub returns : goal.returns
-returns c = same (part_is c.args.head _ c.requires.0 c.to-be-bytes-bytes.ensures) c.put.ensures
+returns c = same (part_is c.args.head _ c.requires.0 c.to_be_bytes-bytes.ensures) c.put.ensures

@@ -12,16 +12,16 @@ number x a w v s l h = λ i. shl_whole x a w 32 h l i + v % one_shl w 64 (omega 
 within : (x a w v : ℕ) → w ≤ 8 → a ≤ 32 - w → x < 2 ^ a → (x * 2 ^ w) % 2 ^ 32 + v % ((1 * 2 ^ w) % 2 ^ 64) < 2 ^ (a + w)
 within x a w v s l h = subst (λ n. n < 2 ^ (a + w)) (sym (number x a w v s (omega arith) h)) (beside_below a w x v h)
 
-pub overflow-add-result : goal.overflow-add-result
-overflow-add-result c =
+pub overflow_add-result : goal.overflow_add-result
+overflow_add-result c =
     let g = c.args.self in
     let w = c.args.width in
     let room : g.width + w ≤ 32 = omega arith in
     let m : 2 ^ (g.width + w) ≤ 2 ^ 32 = pow_mono room in
     record { fits = omega (arith, within g.number g.width w c.args.value c.if-width-gt8.false c.if-self-width.false g.below, m) }
 
-pub invariant-of-result-2 : goal.invariant-of-result-2
-invariant-of-result-2 c =
+pub invariant_of-result-2 : goal.invariant_of-result-2
+invariant_of-result-2 c =
     let g = c.args.self in
     (omega arith, (within g.number g.width c.args.width c.args.value c.if-width-gt8.false c.if-self-width.false g.below, tt))
 

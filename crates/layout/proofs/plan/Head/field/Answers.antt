@@ -9,8 +9,8 @@ use Rattle.layout.proofs.plan.Head.field.Goals as goal
 number : (x a w v : ℕ) → w ≤ 8 → a + w ≤ 32 → x < 2 ^ a → (x * 2 ^ w) % 2 ^ 32 + v % ((1 * 2 ^ w) % 2 ^ 64) ≡ x * 2 ^ w + v % 2 ^ w
 number x a w v s l h = λ i. shl_whole x a w 32 h l i + v % one_shl w 64 (omega arith) i
 
-pub overflow-add-result : goal.overflow-add-result
-overflow-add-result c =
+pub overflow_add-result : goal.overflow_add-result
+overflow_add-result c =
     let g = c.args.self in
     let w = c.args.width in
     let m : 2 ^ (g.width + w) ≤ 2 ^ 32 = pow_mono c.requires.1.0 in

@@ -9,7 +9,7 @@ same : (a v : ℕ) → from_to a a v ≡ true → v ≡ a
 same a v e = let p = and_parts (leb a v) (leb v a) e in omega (arith, leb-true a v p.0, leb-true v a p.1)
 
 pub returns-in-err-value : goal.returns-in-err-value
-returns-in-err-value c = let p = err_from_is_err_and c.from-residual.result c.from-residual.ensures.1 in rw (p.1, p.2) c.in-err-value.ensures
+returns-in-err-value c = let p = err_from_is_err_and c.from_residual.result c.from_residual.ensures.1 in rw (p.1, p.2) c.in-err-value.ensures
 
 pub returns : goal.returns
 returns c =

@@ -3,8 +3,8 @@ use Rattle.reader.specs.Places.{src, pair, at}
 use Rattle.reader.proofs.Masks.{masked, masked_below}
 use Rattle.reader.proofs.place.Reader.field.Goals as goal
 
-pub overflow-cast-result : goal.overflow-cast-result
-overflow-cast-result c =
+pub overflow_cast-result : goal.overflow_cast-result
+overflow_cast-result c =
     let self = c.args.self.now in
     let width = c.args.width in
     let w : width < 16 = omega arith in

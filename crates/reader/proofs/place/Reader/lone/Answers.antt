@@ -10,7 +10,7 @@ use Rattle.reader.proofs.place.Reader.lone.Goals as goal
 
 pub returns-in-err-set : goal.returns-in-err-set
 returns-in-err-set c =
-    let p = err_from_is_err_and c.from-residual.result c.from-residual.ensures.1 in
+    let p = err_from_is_err_and c.from_residual.result c.from_residual.ensures.1 in
     let e = c.in-err-set.ensures in
     rw (p.1, p.2) (λ k. none_left c.args.self.now 8 lone (omega arith) e.0 k ∙ ap (λ x. Err x) (sym e.1))
 
