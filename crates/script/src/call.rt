@@ -26,9 +26,9 @@ pub(crate) enum Verb {
 fn named(word: &[u8]) -> Option<Verb>
     ensures { Named word.now result }
 {
-    if word == b"read" {
+    if word == b"read".as_slice() {
         Some(Verb::Read)
-    } else if word == b"keys" {
+    } else if word == b"keys".as_slice() {
         Some(Verb::Keys)
     } else {
         None
@@ -52,7 +52,7 @@ fn one_word(text: &[u8]) -> Result<&[u8], Reason>
 fn digits(word: &[u8]) -> Result<&[u8], Reason>
     ensures { ArgumentRead word.now result }
 {
-    if word == b"-" {
+    if word == b"-".as_slice() {
         return Ok(first(word, 0));
     }
     if front(word, Until::NotDigit) < word.len() {

@@ -12,7 +12,7 @@ loop-block-preserved c =
     let blocks = c.as_chunks.result.0.now in
     let i = c.loop-block.block-index in
     let within : i < length blocks = omega arith in
-    let count = c.as_chunks.ensures.front-len in
+    let count = c.as_chunks.ensures.front_len in
     let long : length (get_or blocks i []) ≡ 8 =
     ap (λ b. length (get_or b i [])) c.as_chunks.ensures.front ∙ chunk_long (length m / 8) i m (omega arith) (omega (arith, count)) in
     let next = c.compress-state.ensures ∙ ap (compress c.loop-block.state) (c.from_le_bytes.ensures ∙ little_eight (get_or blocks i []) long) in

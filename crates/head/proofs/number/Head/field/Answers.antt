@@ -23,7 +23,7 @@ overflow_add-result c =
 pub invariant_of-result-2 : goal.invariant_of-result-2
 invariant_of-result-2 c =
     let g = c.args.self in
-    (omega arith, (within g.number g.width c.args.width c.args.value c.if-width-gt8.false c.if-self-width.false g.below, tt))
+    record { narrow = omega arith; below = within g.number g.width c.args.width c.args.value c.if-width-gt8.false c.if-self-width.false g.below }
 
 pub returns : goal.returns
 returns c =
