@@ -7,4 +7,4 @@ use Rattle.sending.proofs.signed.Goals as goal
 
 pub returns-in-Err : goal.returns-in-Err
 returns-in-Err g c =
-    (λ hb ha hs. never_refused c.in-Err.ensures (said c.args.statement.now) ha (c.as_slice.ensures ∙ c.in-ok-words.ensures.1) hb hs, c.in-Err.ensures.same)
+    (λ hb ha hs. never_refused c.in-Err.ensures (said c.args.statement.now) ha (c.as_slice.ensures ∙ c.in_ok-words.ensures.1) hb hs, c.in-Err.ensures.same)

@@ -13,11 +13,11 @@ pub returns-then-not-is_formed : goal.returns-then-not-is_formed
 returns-then-not-is_formed g c =
     (λ sp. both_ways false refl (c.if-not-is_formed.ensures.1 (subst Formed (sym c.lone.ensures) (sp.formed 0))), refl, refl)
 
-pub returns-in-default : goal.returns-in-default
-returns-in-default g c = (
-  λ sp. c.in-default.ensures.0 sp.seated
+pub returns-in_default : goal.returns-in_default
+returns-in_default g c = (
+  λ sp. c.in_default.ensures.0 sp.seated
       (lone_allowed (said c.args.statement) c.args.board c.args.proof.bits (stored_tags c.args.proof.bits c.args.acks.now) 0 (sp.formed 0)) sp.unspent,
-  c.in-default.ensures.1,
+  c.in_default.ensures.1,
   refl,
 )
 

@@ -4,5 +4,5 @@ use Rattle.std.proofs.Common.{rules}
 use Rattle.boards.proofs.Members.{member_none}
 use Rattle.signed.proofs.proof_tag.Goals as goal
 
-pub returns-in-default : goal.returns-in-default
-returns-in-default c = search (rules, member_none)
+pub returns-in_default : goal.returns-in_default
+returns-in_default c = search (rules, member_none)

@@ -9,7 +9,7 @@ loop-rest-init c = going_none _ _
 
 pub loop-rest-preserved : goal.loop-rest-preserved
 loop-rest-preserved c =
-    going_more c.loop-rest.invariant c.loop-rest-test.ensures c.next_line.ensures.0 c.in-ok-page.ensures c.next_line.ensures.1
+    going_more c.loop-rest.invariant c.loop-rest-test.ensures c.next_line.ensures.0 c.in_ok-page.ensures c.next_line.ensures.1
 
 pub loop-rest-smaller : goal.loop-rest-smaller
 loop-rest-smaller c = less c.loop-rest.rest.now c.next_line.result.1.now c.loop-rest-test.ensures c.next_line.ensures.1

@@ -4,7 +4,7 @@ use Rattle.std.proofs.Common.{◌≡◌, ◌+◌, max, true, false, sym, refl, a
 use Rattle.layout.specs.Measures.{Even, Going, Evened, proper, reply_of}
 use Rattle.layout.proofs.Replies.{begin, next, skip, finish, improper, uneven, evens, absent, tag_of_even}
 use Rattle.layout.proofs.gather.highest.Goals as goal
-use Rattle.layout.proofs.gather.highest.Goals.{in-Some+else-not-allowed, in-default}
+use Rattle.layout.proofs.gather.highest.Goals.{in-Some+else-not-allowed, in_default}
 
 pub returns-then-not-even : goal.returns-then-not-even
 returns-then-not-even c = uneven c.args.set.bits c.args.entries c.even.result c.even.ensures c.if-not-even.true
@@ -28,7 +28,7 @@ loop-board-preserved c =
           let r = w.in-Some.ensures in
           let p : proper (reply_of s es b).entry ≡ true = ap proper (sym r.1) ∙ sym w.allowed.ensures ∙ w.if-not-allowed.false in
           subst (Going s es (b + 1)) (ap (λ e. max c.loop-board.top e.earlier) (sym r.1) ∙ sym w.max-top.ensures ∙ sym w.top-is) (next c.loop-board.invariant r.0 p (tag_of_even s es b _ c.even.ensures c.if-not-even.false r.0))
-      | in-default w ↦ subst (Going s es (b + 1)) (sym w.top-is) (skip c.loop-board.invariant (absent s es b (evens _ _ _ c.even.ensures c.if-not-even.false) w.in-default.ensures))
+      | in_default w ↦ subst (Going s es (b + 1)) (sym w.top-is) (skip c.loop-board.invariant (absent s es b (evens _ _ _ c.even.ensures c.if-not-even.false) w.in_default.ensures))
     ]
 
 pub returns : goal.returns

@@ -4,7 +4,7 @@ use Rattle.boards.proofs.Members.{member_below}
 use Rattle.layout.proofs.gather.reply.Goals as goal
 
 pub bounds-entries-board : goal.bounds-entries-board
-bounds-entries-board c = member_below _ _ c.in-ok-rank.ensures.0
+bounds-entries-board c = member_below _ _ c.in_ok-rank.ensures.0
 
 pub bounds-tags-board : goal.bounds-tags-board
-bounds-tags-board c = member_below _ _ c.in-ok-rank.ensures.0
+bounds-tags-board c = member_below _ _ c.in_ok-rank.ensures.0

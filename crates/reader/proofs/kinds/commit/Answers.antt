@@ -6,4 +6,4 @@ use Rattle.reader.proofs.kinds.commit.Goals as goal
 
 pub returns : goal.returns
 returns c =
-    ap (more (Item.num 4 13 ∷ Item.num 8 c.args.view ∷ [])) (passed_by _ c.in-ok-content.ensures (λ _. tagged Grammar.done) (passed _ c.in-ok-set.ensures Grammar.done c.in-ok-end.ensures))
+    ap (more (Item.num 4 13 ∷ Item.num 8 c.args.view ∷ [])) (passed_by _ c.in_ok-content.ensures (λ _. tagged Grammar.done) (passed _ c.in_ok-set.ensures Grammar.done c.in_ok-end.ensures))

@@ -6,4 +6,4 @@ use Rattle.reader.proofs.kinds.echo.Goals as goal
 
 pub returns : goal.returns
 returns c =
-    ap (more (Item.num 4 12 ∷ Item.num 8 c.args.view ∷ [])) (passed_by _ c.in-ok-content.ensures (λ _. lone_tag Grammar.done) (passed _ c.in-ok-speaker.ensures Grammar.done c.in-ok-end.ensures))
+    ap (more (Item.num 4 12 ∷ Item.num 8 c.args.view ∷ [])) (passed_by _ c.in_ok-content.ensures (λ _. lone_tag Grammar.done) (passed _ c.in_ok-speaker.ensures Grammar.done c.in_ok-end.ensures))

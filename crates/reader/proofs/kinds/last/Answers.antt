@@ -7,5 +7,5 @@ use Rattle.reader.proofs.kinds.last.Goals as goal
 pub returns : goal.returns
 returns c =
     ap (more (Item.num 4 9 ∷ Item.num 8 c.args.view ∷ []))
-    (read _ c.in-ok-rank.ensures _ (read _ c.in-ok-speaker.ensures.read _
-    (one _ c.in-ok-entry.ensures (λ e. proof e Grammar.done) (passed _ c.in-ok-proof.ensures Grammar.done c.in-ok-end.ensures))))
+    (read _ c.in_ok-rank.ensures _ (read _ c.in_ok-speaker.ensures.read _
+    (one _ c.in_ok-entry.ensures (λ e. proof e Grammar.done) (passed _ c.in_ok-proof.ensures Grammar.done c.in_ok-end.ensures))))

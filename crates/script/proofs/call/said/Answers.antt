@@ -8,25 +8,25 @@ use Rattle.script.specs.Calls.{name_of}
 use Rattle.script.proofs.Parsing.{after_name, wrong_words, wrong_argument}
 use Rattle.script.proofs.call.said.Goals as goal
 
-pub returns-in-err-word : goal.returns-in-err-word
-returns-in-err-word c =
+pub returns-in_err-word : goal.returns-in_err-word
+returns-in_err-word c =
     let text : Whole plain c.args.text.now = search rules in
     let p = err_from_is_err_and c.from_residual.result c.from_residual.ensures.1 in
     rw (p.1, p.2)
-    (wrong_words c.args.text.now c.in-Some.rest.now c.in-Some-named.verb _ text c.in-Some-named.ensures c.in-Some.ensures c.in-err-word.ensures)
+    (wrong_words c.args.text.now c.in-Some.rest.now c.in-Some-named.verb _ text c.in-Some-named.ensures c.in-Some.ensures c.in_err-word.ensures)
 
-pub returns-in-err-digits : goal.returns-in-err-digits
-returns-in-err-digits c =
+pub returns-in_err-digits : goal.returns-in_err-digits
+returns-in_err-digits c =
     let text : Whole plain c.args.text.now = search rules in
-    let p = err_from_is_err_and c.from_residual-in-err-digits.result c.from_residual-in-err-digits.ensures.1 in
+    let p = err_from_is_err_and c.from_residual-in_err-digits.result c.from_residual-in_err-digits.ensures.1 in
     let name = c.in-Some-named.ensures ∙ ap name_of c.in-Read.is in
-    let words = after_name c.args.text.now c.in-Some.rest.now ReadVerb name c.in-Some.ensures c.in-ok-word.ensures in
-    rw (p.1, p.2) (wrong_argument c.args.text.now ReadVerb _ text words c.in-err-digits.ensures)
+    let words = after_name c.args.text.now c.in-Some.rest.now ReadVerb name c.in-Some.ensures c.in_ok-word.ensures in
+    rw (p.1, p.2) (wrong_argument c.args.text.now ReadVerb _ text words c.in_err-digits.ensures)
 
-pub returns-in-err-key_digits : goal.returns-in-err-key_digits
-returns-in-err-key_digits c =
+pub returns-in_err-key_digits : goal.returns-in_err-key_digits
+returns-in_err-key_digits c =
     let text : Whole plain c.args.text.now = search rules in
-    let p = err_from_is_err_and c.from_residual-in-err-key_digits.result c.from_residual-in-err-key_digits.ensures.1 in
+    let p = err_from_is_err_and c.from_residual-in_err-key_digits.result c.from_residual-in_err-key_digits.ensures.1 in
     let name = c.in-Some-named.ensures ∙ ap name_of c.in-Keys.is in
-    let words = after_name c.args.text.now c.in-Some.rest.now KeysVerb name c.in-Some.ensures c.in-ok-word.ensures in
-    rw (p.1, p.2) (wrong_argument c.args.text.now KeysVerb _ text words c.in-err-key_digits.ensures)
+    let words = after_name c.args.text.now c.in-Some.rest.now KeysVerb name c.in-Some.ensures c.in_ok-word.ensures in
+    rw (p.1, p.2) (wrong_argument c.args.text.now KeysVerb _ text words c.in_err-key_digits.ensures)

@@ -12,7 +12,7 @@ use Rattle.writer.specs.Writes.{Put}
 use Rattle.writer.proofs.Puts.{none, more, same, reached}
 use Rattle.writer.proofs.Rows.{answers, answers_in, answers_out, answers_none}
 use Rattle.writer.proofs.put.put_replies.Goals as goal
-use Rattle.writer.proofs.put.put_replies.Goals.{in-Some, in-default}
+use Rattle.writer.proofs.put.put_replies.Goals.{in-Some, in_default}
 
 pub loop-board-init : goal.loop-board-init
 loop-board-init c = same (answers_none c.args.set.bits c.args.entries) (none _ _)
@@ -33,7 +33,7 @@ loop-board-preserved c =
       | in-Some w ↦
           let r = w.in-Some.ensures in
           reached w.n-is w.out-is (same (ap (λ x. answers s es b ++ x) (λ i. entry_byte (r.1 i) ∷ r.2 i) ∙ answers_in s es b r.0) (more (omega arith) c.loop-board.invariant w.put_reply-n.ensures))
-      | in-default w ↦ reached w.n-is w.out-is (same (answers_out s es b (absent s es b c.requires.1 w.in-default.ensures)) c.loop-board.invariant)
+      | in_default w ↦ reached w.n-is w.out-is (same (answers_out s es b (absent s es b c.requires.1 w.in_default.ensures)) c.loop-board.invariant)
     ]
 
 pub returns : goal.returns

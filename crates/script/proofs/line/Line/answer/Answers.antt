@@ -21,7 +21,7 @@ pub returns-in-Kept : goal.returns-in-Kept
 returns-in-Kept c = known c.in-Kept.is c.text.ensures
 
 pub returns-in-Refused : goal.returns-in-Refused
-returns-in-Refused c = known c.in-Refused.is (then c.text_in-Refused.ensures c.refusal.ensures)
+returns-in-Refused c = known c.in-Refused.is (then c.text-in-Refused.ensures c.refusal.ensures)
 
 pub returns-in-Wrong : goal.returns-in-Wrong
-returns-in-Wrong c = known c.in-Wrong.is (then c.text_in-Wrong.ensures (same c.text_in-Wrong-2.ensures c.reason_text.ensures))
+returns-in-Wrong c = known c.in-Wrong.is (then c.text-in-Wrong.ensures (same c.text-in-Wrong-2.ensures c.reason_text.ensures))
