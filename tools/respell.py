@@ -35,7 +35,9 @@ def declared():
         inside = None
         for line in open(f, encoding="utf-8"):
             line = re.sub(r"--.*", "", line.rstrip("\n"))
-            m = re.match(r"^(?:(?:pub|abbrev|unfoldable|pattern) )*(data|record) (" + ID + ")", line)
+            for n in re.findall(r" as (" + ID + ")[,}]", line):
+                kinds[n].add("type" if n[0].isupper() else "term")
+            m = re.match(r"^(?:  )?(?:(?:pub|abbrev|unfoldable|pattern) )*(data|record) (" + ID + ")", line)
             if m:
                 kinds[m[2]].add("type")
                 inside = m[1]
@@ -43,9 +45,7 @@ def declared():
             if line and not line[0].isspace():
                 inside = None
             m = re.match(r"^(\s*)(?:(?:pub|abbrev|unfoldable|pattern) )*((?:" + ID + r" )*" + ID + r")(?:\s*\{[^}]*\})?\s*:\s*(.*)", line)
-            if not m or (m[1] and not inside and "/proofs/" not in f) or m[3].startswith("goal."):
-                continue
-            if m[1] and not inside and not re.match(r"^\s+(?:pub|abbrev|unfoldable) ", line):
+            if not m or m[3].startswith("goal.") or (m[1] and not inside and not re.match(r"^  (?:pub |abbrev |unfoldable )*" + ID + r" ?(\{[^}]*\} ?)?: ", line)):
                 continue
             for n in m[2].split():
                 kind = "type" if re.search(r"(^|→ )Type( \S+)?\s*$", m[3]) and not (m[1] and inside) else "term"
@@ -73,7 +73,7 @@ def camel(n):
 
 
 def spelled(n, kinds):
-    return camel(n) if "type" in kinds else snake(n)
+    return camel(n) if "type" in kinds or n[0].isupper() else snake(n)
 
 
 def snake(n):

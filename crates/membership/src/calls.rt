@@ -1,6 +1,6 @@
 // The calls at a row: each answers the first reason against it and changes nothing, or does what the rules say.
 // Rules: docs/RULES.md, "Changing the group". What each call promises: specs of crate row, Calls.antt.
-ghost use Rattle.row.specs.Calls.{Asks-out, Asks-in};
+ghost use Rattle.row.specs.Calls.{AsksOut, AsksIn};
 
 use crate::asks::{asked_out, notify};
 use codes::Refusal;
@@ -16,7 +16,7 @@ pub fn ask_out<S: Scheme>(
     c: u8,
     out: &mut [u8],
 ) -> Result<Sent, Refusal>
-    ensures { Asks-out S.Scheme row.old.state scheme.old c out.old result row.new.state scheme.new out.new }
+    ensures { AsksOut S.Scheme row.old.state scheme.old c out.old result row.new.state scheme.new out.new }
 {
     match out_refusal(row, c, out.len(), scheme.is_spent()) {
         Some(e) => Err(e),
@@ -32,7 +32,7 @@ pub fn ask_in<S: Scheme>(
     delivery: Option<u8>,
     out: &mut [u8],
 ) -> Result<Sent, Refusal>
-    ensures { Asks-in S.Scheme row.old.state scheme.old c delivery out.old result row.new.state scheme.new out.new }
+    ensures { AsksIn S.Scheme row.old.state scheme.old c delivery out.old result row.new.state scheme.new out.new }
 {
     match in_refusal(row, c, delivery, out.len(), scheme.is_spent()) {
         Some(e) => Err(e),

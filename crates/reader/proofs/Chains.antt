@@ -7,7 +7,7 @@ use Rattle.reader.specs.declared.place.Reader.{Reader}
 use Rattle.reader.specs.Places.{met, Read, Part}
 use Rattle.wire.specs.Messages.{heard_replies}
 use Rattle.wire.specs.Format.{replies_values}
-use Rattle.reader.specs.declared.parts.Reply.{Reply as Reply-read}
+use Rattle.reader.specs.declared.parts.Reply.{Reply as ReplyRead}
 use Rattle.wire.specs.Fields.{entered, entries}
 use Rattle.reader.specs.Parts.{Passed, PassedBy, Entered, All, items, reply}
 
@@ -23,7 +23,7 @@ read {w} {v} o h k e = h.on k ∙ ap (more (Item.num w v ∷ [])) e
 pub cut : {n : ℕ} {s t : Reader} {v : Bor (List ℕ)} (o : Result (List Item) Fault) → Part n s v t → (k : List ℕ → Grammar) → met (k v.now) t ≡ o → met (Grammar.part n k) s ≡ more (Item.raw v.now ∷ []) o
 cut {n} {s} {t} {v} o h k e = h.on k ∙ ap (more (Item.raw v.now ∷ [])) e
 
-pub one : {x : Reply-read} {s t : Reader} (o : Result (List Item) Fault) → Entered x s t → (k : ℕ → Grammar) → met (k x.entry.earlier) t ≡ o → met (entered k) s ≡ more (items (reply x)) o
+pub one : {x : ReplyRead} {s t : Reader} (o : Result (List Item) Fault) → Entered x s t → (k : ℕ → Grammar) → met (k x.entry.earlier) t ≡ o → met (entered k) s ≡ more (items (reply x)) o
 one {x} o h k e = h.on k ∙ ap (more (items (reply x))) e
 
 pub each : {n top : ℕ} {part : List ℕ} {s t : Reader} (o : Result (List Item) Fault) → All n top part s t → (k : ℕ → Grammar) → met (k top) t ≡ o → met (entries n 0 k) s ≡ more (replies_values (heard_replies part)) o

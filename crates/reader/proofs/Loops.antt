@@ -12,7 +12,7 @@ use Rattle.reader.specs.declared.place.Reader.{Reader}
 use Rattle.reader.specs.Places.{met, src, at, pair, field_at, Read, Part, Found, Cut}
 use Rattle.wire.specs.Messages.{Reply, reply_at, replies_in, heard_replies}
 use Rattle.wire.specs.Format.{reply_values, replies_values}
-use Rattle.reader.specs.declared.parts.Reply.{Reply as Reply-read}
+use Rattle.reader.specs.declared.parts.Reply.{Reply as ReplyRead}
 use Rattle.wire.specs.Fields.{entered, entries}
 use Rattle.reader.specs.Parts.{items, reply, Entered, All}
 
@@ -94,7 +94,7 @@ one_more : (m n i top : ℕ) → n - i ≡ suc m → (k : ℕ → Grammar) → e
 unfolding entries
 one_more m n i top h k = ap (λ j. entries j top k) h
 
-pub next : (n i top : ℕ) {s t u : Reader} {x : Reply-read} → i < n → Going n i top s t → Entered x t u → Going n (i + 1) (max top x.entry.earlier) s u
+pub next : (n i top : ℕ) {s t u : Reader} {x : ReplyRead} → i < n → Going n i top s t → Entered x t u → Going n (i + 1) (max top x.entry.earlier) s u
 next n i top {s} {t} {u} {x} h g e =
     let m = n - (i + 1) in
     let d : n - i ≡ suc m = omega arith in

@@ -10,7 +10,7 @@ use Rattle.wire.specs.Fields.{lone_tag, tagged, proof, entered, entries, graded,
 use Rattle.wire.specs.Messages.{Reply, reply_at, replies_in, heard_replies}
 use Rattle.wire.specs.Format.{graded_values, content_values, set_values, reply_values, replies_values}
 use Rattle.reader.specs.declared.place.Reader.{Reader}
-use Rattle.reader.specs.declared.parts.Reply.{Reply as Reply-read}
+use Rattle.reader.specs.declared.parts.Reply.{Reply as ReplyRead}
 use Rattle.reader.specs.Places.{met, src}
 
 -- a part of the format was passed, with these items, whatever comes after it
@@ -37,20 +37,20 @@ ProofRead e s (Ok x) t = Passed (proof e) (set_values x.0 x.1.now) s t
 ProofRead e s (Err f) t = (k : Grammar) → met (proof e k) s ≡ Err f
 
 -- a reply as read
-abbrev pub reply : Reply-read → Reply
+abbrev pub reply : ReplyRead → Reply
 reply x = record { entry = x.entry; tag = x.tag.now }
 
 abbrev pub items : Reply → List Item
 items e = reply_values e []
 
-pub record Entered (x : Reply-read) (s t : Reader) : Type 0 where
+pub record Entered (x : ReplyRead) (s t : Reader) : Type 0 where
   pub on : (k : ℕ → Grammar) → met (entered k) s ≡ more (items (reply x)) (met (k x.entry.earlier) t)
   pub found : reply x ≡ reply_at (src s) s.byte
   pub same : src t ≡ src s
   pub moved : t.byte ≡ s.byte + 9
   pub whole : t.bit ≡ 0
 
-abbrev pub EnteredRead : Reader → Result Reply-read Fault → Reader → Type 0
+abbrev pub EnteredRead : Reader → Result ReplyRead Fault → Reader → Type 0
 EnteredRead s (Ok x) t = Entered x s t
 EnteredRead s (Err f) t = (k : ℕ → Grammar) → met (entered k) s ≡ Err f
 

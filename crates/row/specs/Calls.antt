@@ -44,16 +44,16 @@ module _ {S : Type 0} (g : Ghosts S) where
   Called why o st s out (Ok a) st2 s2 out2 = (why ≡ None) × (st2 ≡ o.0) × Done st.board o.1 out s a s2 out2
   Called why o st s out (Err e) st2 s2 out2 = (why ≡ Some e) × (st2 ≡ st) × (s2 ≡ s) × (out2 ≡ out)
 
-  abbrev pub Asks-out : State → S → ℕ → List ℕ → Result Sent Refusal → State → S → List ℕ → Type 0
-  Asks-out st s c out r st2 s2 out2 = Called (out_refusal st c (length out) (g.spent s)) (asked_out st c) st s out r st2 s2 out2
+  abbrev pub AsksOut : State → S → ℕ → List ℕ → Result Sent Refusal → State → S → List ℕ → Type 0
+  AsksOut st s c out r st2 s2 out2 = Called (out_refusal st c (length out) (g.spent s)) (asked_out st c) st s out r st2 s2 out2
 
-  abbrev pub Asks-in : State → S → ℕ → Option ℕ → List ℕ → Result Sent Refusal → State → S → List ℕ → Type 0
-  Asks-in st s c y out r st2 s2 out2 = Called (in_refusal st c y (length out) (g.spent s)) (asked_in st c) st s out r st2 s2 out2
+  abbrev pub AsksIn : State → S → ℕ → Option ℕ → List ℕ → Result Sent Refusal → State → S → List ℕ → Type 0
+  AsksIn st s c y out r st2 s2 out2 = Called (in_refusal st c y (length out) (g.spent s)) (asked_in st c) st s out r st2 s2 out2
 
   abbrev pub Hears : State → S → Msg → List ℕ → Result Sent Refusal → State → S → List ℕ → Type 0
   Hears st s m out r st2 s2 out2 = Called (hear_refusal st m (length out) (genuine (g.good s) m) (g.spent s)) (heard st m) st s out r st2 s2 out2
 
   -- A hear of any message: one that is not formed, or of another layer, has no answer here and changes nothing.
-  abbrev pub Heard-any : State → S → Msg → List ℕ → Option (Result Sent Refusal) → State → S → List ℕ → Type 0
-  Heard-any st s m out None st2 s2 out2 = (Formed m × (of_group m ≡ true) → ⊥) × (st2 ≡ st) × (s2 ≡ s) × (out2 ≡ out)
-  Heard-any st s m out (Some r) st2 s2 out2 = Formed m × (of_group m ≡ true) × Hears st s m out r st2 s2 out2
+  abbrev pub HeardAny : State → S → Msg → List ℕ → Option (Result Sent Refusal) → State → S → List ℕ → Type 0
+  HeardAny st s m out None st2 s2 out2 = (Formed m × (of_group m ≡ true) → ⊥) × (st2 ≡ st) × (s2 ≡ s) × (out2 ≡ out)
+  HeardAny st s m out (Some r) st2 s2 out2 = Formed m × (of_group m ≡ true) × Hears st s m out r st2 s2 out2

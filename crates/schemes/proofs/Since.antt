@@ -21,22 +21,22 @@ module _ {S : Type 0} (good : S → Good) (spent : S → Bool) where
   past_call s s2 board words (Ok tag) h b w t g = h.kept b w t g
   past_call s s2 board words (Err e) h b w t g = ap (λ x. good x b w t) h.same ∙ g
 
-  earned-run : {start s : S} {calls : List Call} → Run good spent start s calls
+  earned_run : {start s : S} {calls : List Call} → Run good spent start s calls
       → (b : ℕ) (w : List ℕ) (t : ℕ) → good s b w t ≡ true → (good start b w t ≡ true) ⊎ SignedIn calls b w
-  earned-run Run.begin b w t g = inl g
-  earned-run (Run.next {s} {s2} {calls} run c step) b w t g =
-      ⊎_elim (λ old. ⊎_elim inl (λ e. inr (inr e)) (earned-run run b w t old)) (λ e. inr (inl e))
+  earned_run Run.begin b w t g = inl g
+  earned_run (Run.next {s} {s2} {calls} run c step) b w t g =
+      ⊎_elim (λ old. ⊎_elim inl (λ e. inr (inr e)) (earned_run run b w t old)) (λ e. inr (inl e))
       (since_call s s2 c.board c.words c.answer step b w t g)
 
   pub earned : Earned good spent
-  earned start s calls run = earned-run run
+  earned start s calls run = earned_run run
 
-  lasting-run : {start s : S} {calls : List Call} → Run good spent start s calls → (b : ℕ) (w : List ℕ) (t : ℕ) → good start b w t ≡ true → good s b w t ≡ true
-  lasting-run Run.begin b w t g = g
-  lasting-run (Run.next {s} {s2} {calls} run c step) b w t g = past_call s s2 c.board c.words c.answer step b w t (lasting-run run b w t g)
+  lasting_run : {start s : S} {calls : List Call} → Run good spent start s calls → (b : ℕ) (w : List ℕ) (t : ℕ) → good start b w t ≡ true → good s b w t ≡ true
+  lasting_run Run.begin b w t g = g
+  lasting_run (Run.next {s} {s2} {calls} run c step) b w t g = past_call s s2 c.board c.words c.answer step b w t (lasting_run run b w t g)
 
   pub lasting : Lasting good spent
-  lasting start s calls run = lasting-run run
+  lasting start s calls run = lasting_run run
 
 -- A register with no row used has nothing good.
 pub none_good : (r : Register) → r.used ≡ 0 → (b : ℕ) (w : List ℕ) (t : ℕ) → good_in r b w t ≡ true → ⊥

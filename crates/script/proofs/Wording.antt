@@ -113,19 +113,19 @@ word_first bs h =
 
 -- what a search finds: rest stands past the blanks, and e bytes of it before the next
 module _ (bs : List ℕ) {rest : List ℕ} {s e : ℕ} (start : s ≡ gap bs) (past : rest ≡ drop s bs) (end : e ≡ run rest) where
-  rest-is : rest ≡ drop (gap bs) bs
-  rest-is = past ∙ ap (λ n. drop n bs) start
+  rest_is : rest ≡ drop (gap bs) bs
+  rest_is = past ∙ ap (λ n. drop n bs) start
 
   run_is : e ≡ run (drop (gap bs) bs)
-  run_is = end ∙ ap run rest-is
+  run_is = end ∙ ap run rest_is
 
   pub found_none : e ≡ 0 → words bs ≡ []
   found_none z = no_word bs (sym run_is ∙ z)
 
   pub found : {w t : List ℕ} → (e ≡ 0 → ⊥) → w ≡ take e rest → t ≡ drop e rest → words bs ≡ w ∷ words t
   found {w} {t} some here there =
-      let w-is : w ≡ take (run (drop (gap bs) bs)) (drop (gap bs) bs) = here ∙ (λ i. take (run_is i) (rest-is i)) in
-      let t-is : t ≡ drop (run (drop (gap bs) bs)) (drop (gap bs) bs) = there ∙ (λ i. drop (run_is i) (rest-is i)) in
+      let w-is : w ≡ take (run (drop (gap bs) bs)) (drop (gap bs) bs) = here ∙ (λ i. take (run_is i) (rest_is i)) in
+      let t-is : t ≡ drop (run (drop (gap bs) bs)) (drop (gap bs) bs) = there ∙ (λ i. drop (run_is i) (rest_is i)) in
       skipped bs ∙ word_first (drop (gap bs) bs) (omega (arith, run_is, some)) ∙ sym (λ i. w-is i ∷ words (t-is i))
 
 -- a line of no bytes has no carriage return

@@ -18,7 +18,7 @@ use Rattle.wire.specs.Messages.{Msg, Reply, tag_bytes, none, stored_tags}
 use Rattle.wire.specs.Format.{Formed, form, message, values}
 use Rattle.wire.specs.Acts.{Act, Allowed, signers, act_of, words}
 use Rattle.wire.proofs.Signs.{EntryAllowed, signed_allowed, payload_le, words_long}
-use Rattle.wire.proofs.Speakers.{lone_below as speaker-below}
+use Rattle.wire.proofs.Speakers.{lone_below as speaker_below}
 use Rattle.wire.proofs.Widths.{wide, length_form}
 use Rattle.row.specs.Effects.{lone}
 use Rattle.row.specs.declared.state.Sent.{Sent}
@@ -120,14 +120,14 @@ itself b h = member_only b b h ∙ eq-eqb b b refl
 
 -- The act of a formed lone message is allowed.
 pub lone_allowed : (a : Act) (b p : ℕ) (ak : List ℕ) (x : ℕ) → Formed (lone a b p ak (tag_bytes x)) → Allowed a
-lone_allowed (Act.notify v c) b p ak x f = signed_allowed (Msg.notify v c b (tag_bytes x)) b f (itself b (speaker-below b (held f).3.3.3.3.2))
-lone_allowed (Act.ack v r c) b p ak x f = signed_allowed (Msg.ack v r c b (tag_bytes x)) b f (itself b (speaker-below b (held f).3.3.3.3.3.2))
-lone_allowed (Act.ready v r c) b p ak x f = signed_allowed (Msg.ready v r c b (tag_bytes x)) b f (itself b (speaker-below b (held f).3.3.3.3.3.2))
-lone_allowed (Act.deputy v r) b p ak x f = signed_allowed (Msg.deputy v r b (tag_bytes x)) b f (itself b (speaker-below b (held f).3.3.3.2))
+lone_allowed (Act.notify v c) b p ak x f = signed_allowed (Msg.notify v c b (tag_bytes x)) b f (itself b (speaker_below b (held f).3.3.3.3.2))
+lone_allowed (Act.ack v r c) b p ak x f = signed_allowed (Msg.ack v r c b (tag_bytes x)) b f (itself b (speaker_below b (held f).3.3.3.3.3.2))
+lone_allowed (Act.ready v r c) b p ak x f = signed_allowed (Msg.ready v r c b (tag_bytes x)) b f (itself b (speaker_below b (held f).3.3.3.3.3.2))
+lone_allowed (Act.deputy v r) b p ak x f = signed_allowed (Msg.deputy v r b (tag_bytes x)) b f (itself b (speaker_below b (held f).3.3.3.2))
 lone_allowed (Act.last v r e) b p ak x f =
-    signed_allowed (Msg.last v r b (record { entry = e; tag = tag_bytes x }) p ak) b f (itself b (speaker-below b (held f).3.3.3.2))
+    signed_allowed (Msg.last v r b (record { entry = e; tag = tag_bytes x }) p ak) b f (itself b (speaker_below b (held f).3.3.3.2))
 lone_allowed (Act.init v s n k w) b p ak x f = signed_allowed (Msg.init v s n k w (tag_bytes x)) s f (itself s (held f).3.3.1)
-lone_allowed (Act.echo v s n k w) b p ak x f = signed_allowed (Msg.echo v s n k w b (tag_bytes x)) b f (itself b (speaker-below b (held f).3.3.3.3.3.3.2.2))
+lone_allowed (Act.echo v s n k w) b p ak x f = signed_allowed (Msg.echo v s n k w b (tag_bytes x)) b f (itself b (speaker_below b (held f).3.3.3.3.3.3.2.2))
 
 only_byte : (b : ℕ) → only b < 256
 unfolding only

@@ -26,9 +26,9 @@ pub record Speakable (board : ℕ) (act : Act) (proof : ℕ) (acks : List ℕ) (
 
 module _ {S : Type 0} (g : Ghosts S) where
   -- A board signs an allowed act exactly if the scheme is not spent; else nothing changes.
-  abbrev pub Signs-for : ℕ → Act → S → Option ℕ → S → Type 0
-  Signs-for board act s (Some tag) s2 = Allowed act × Signed (g.good s) (g.good s2) (g.spent s) board (words act) tag
-  Signs-for board act s None s2 = (board < 8 → Allowed act → g.spent s ≢ false) × (s2 ≡ s)
+  abbrev pub SignsFor : ℕ → Act → S → Option ℕ → S → Type 0
+  SignsFor board act s (Some tag) s2 = Allowed act × Signed (g.good s) (g.good s2) (g.spent s) board (words act) tag
+  SignsFor board act s None s2 = (board < 8 → Allowed act → g.spent s ≢ false) × (s2 ≡ s)
 
   -- A board sends the lone message of an act exactly if it can; else nothing changes.
   abbrev pub Speaks : ℕ → ℕ → Act → ℕ → List ℕ → List ℕ → S → Option Sent → S → List ℕ → Type 0
@@ -40,6 +40,6 @@ module _ {S : Type 0} (g : Ghosts S) where
   Did o st s out a st2 s2 out2 = (st2 ≡ o.0) × Done g st.board o.1 out s a s2 out2
 
   -- A hear of the messages that pass a test: any other has no answer and changes nothing.
-  abbrev pub Heard-if : (Msg → Bool) → State → S → Msg → List ℕ → Option (Result Sent Refusal) → State → S → List ℕ → Type 0
-  Heard-if test st s m out None st2 s2 out2 = (Formed m → test m ≢ true) × (st2 ≡ st) × (s2 ≡ s) × (out2 ≡ out)
-  Heard-if test st s m out (Some r) st2 s2 out2 = Formed m × (test m ≡ true) × Hears g st s m out r st2 s2 out2
+  abbrev pub HeardIf : (Msg → Bool) → State → S → Msg → List ℕ → Option (Result Sent Refusal) → State → S → List ℕ → Type 0
+  HeardIf test st s m out None st2 s2 out2 = (Formed m → test m ≢ true) × (st2 ≡ st) × (s2 ≡ s) × (out2 ≡ out)
+  HeardIf test st s m out (Some r) st2 s2 out2 = Formed m × (test m ≡ true) × Hears g st s m out r st2 s2 out2

@@ -7,7 +7,7 @@ ghost use Rattle.wire.specs.Messages.{meaning, stored_tags, tag_bytes};
 ghost use Rattle.wire.specs.Format.{Formed};
 ghost use Rattle.words.specs.Said.{said};
 ghost use Rattle.row.specs.Effects.{lone};
-ghost use Rattle.sending.specs.Sends.{GoesOut, Signs-for, Speaks};
+ghost use Rattle.sending.specs.Sends.{GoesOut, SignsFor, Speaks};
 
 use boards::Set;
 use layout::lay::lay_out;
@@ -100,7 +100,7 @@ fn lone<'a>(
 
 // A board's tag for a statement; none if the statement has no words or the scheme refuses, and then nothing changes.
 fn signed<S: Scheme>(scheme: &mut S, board: u8, statement: &Statement<'_>) -> Option<u64>
-    ensures { Signs-for S.Scheme board (said statement.now) scheme.old result scheme.new }
+    ensures { SignsFor S.Scheme board (said statement.now) scheme.old result scheme.new }
 {
     let words = statement.words()?;
     match scheme.sign(board, words.as_slice()) {

@@ -71,8 +71,8 @@ module _ {S : Type 0} (g : Ghosts S) (faulty first : ℕ) (rows rows2 : List Sta
     readies : Readies faulty (view_at rows b x) (acts_in (deeds_of h) x) rank change
 
   -- A row whose latest view was x and is above it now is the row of the step.
-  at-step : latest (row_of rows b) ≤ x → x < latest (row_of rows2 b) → b ≡ e.board
-  at-step low high =
+  at_step : latest (row_of rows b) ≤ x → x < latest (row_of rows2 b) → b ≡ e.board
+  at_step low high =
       ⊎_elim (λ same. same) (λ other. absurd (omega (arith, low, high, ap latest (row_else g faulty first rows rows2 h e a t v b other)))) (cases_eq b e.board)
 
   made_by : (same : b ≡ e.board) → latest e.before ≡ x → Rise (deed_at e) (core e.before) (core e.after) → Made
@@ -95,7 +95,7 @@ module _ {S : Type 0} (g : Ghosts S) (faulty first : ℕ) (rows rows2 : List Sta
 
   made : latest (row_of rows b) ≤ x → x < latest (row_of rows2 b) → Made
   made low high =
-      let same = at-step low high in
+      let same = at_step low high in
       let r = row_here g faulty first rows rows2 h e a t v b same in
       let was = ap latest r.0 in
       let is = ap latest r.1 in

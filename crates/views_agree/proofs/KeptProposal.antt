@@ -15,16 +15,16 @@ some≢none : (i d : ℕ) → kept_of i d ≡ None → ⊥
 some≢none i d h = let z : ◌≡◌ {A = ℕ} 0 1 = cc in omega arith
 
 module _ {now floor : ℕ} {kept : Option Kept} {did : ℕ → Vote → Type 0} where
-  kept-still : Ranked did → Floor now floor did → Keeps now kept did → (v : Vote) → level v < floor
+  kept_still : Ranked did → Floor now floor did → Keeps now kept did → (v : Vote) → level v < floor
       → (k c : ℕ) → did now (Vote.Ready k c) → (i d : ℕ) × (kept_after v kept ≡ kept_of i d) × (i ≤ k)
-  kept-still r f p (Vote.Ack j e) low k c d = p k c d
-  kept-still r f p (Vote.Ready j e) low k c d = (j, e, refl, omega (arith, above_floor f now (Vote.Ready k c) refl d, r now (Vote.Ready k c) d))
-  kept-still r f p (Vote.Last j e) low k c d = p k c d
+  kept_still r f p (Vote.Ack j e) low k c d = p k c d
+  kept_still r f p (Vote.Ready j e) low k c d = (j, e, refl, omega (arith, above_floor f now (Vote.Ready k c) refl d, r now (Vote.Ready k c) d))
+  kept_still r f p (Vote.Last j e) low k c d = p k c d
 
   -- One vote more.
   pub keeps_voted : Ranked did → Floor now floor did → Keeps now kept did → (y : ℕ) (v : Vote) → level v < floor → Keeps now (kept_after v kept) (More did y v)
   keeps_voted r f p y v low k c d =
-      ⊎_elim (λ e. (k, c, subst (λ u. kept_after u kept ≡ kept_of k c) e.1 refl, omega arith)) (kept-still r f p v low k c) d
+      ⊎_elim (λ e. (k, c, subst (λ u. kept_after u kept ≡ kept_of k c) e.1 refl, omega arith)) (kept_still r f p v low k c) d
 
 pub readied_voted : (now : ℕ) (kept : Option Kept) (did : ℕ → Vote → Type 0) → Readied now kept did → (y : ℕ) (v : Vote) → y ≡ now → Readied now (kept_after v kept) (More did y v)
 readied_voted now kept did p y (Vote.Ack j c) same i d e = inr (p i d e)

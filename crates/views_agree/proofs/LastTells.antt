@@ -17,8 +17,8 @@ LastTells did = (x k j c : ℕ) (e : Entry) → did x (Vote.Last k e) → did x 
 
 module _ {now floor : ℕ} {kept : Option Kept} {did : ℕ → Vote → Type 0} (f : Floor now floor did) (keeps : Keeps now kept did) (readied : Readied now kept did) where
   -- The new vote is a last, after a ready: it tells what is kept.
-  tells-now : (k j c : ℕ) (e : Entry) → level (Vote.Last k e) < floor → e ≡ kept_entry kept → did now (Vote.Ready j c) → Told did now k j e
-  tells-now k j c e low told d =
+  tells_now : (k j c : ℕ) (e : Entry) → level (Vote.Last k e) < floor → e ≡ kept_entry kept → did now (Vote.Ready j c) → Told did now k j e
+  tells_now k j c e low told d =
       let t = keeps j c d in
       let w = readied t.0 t.1 t.2 in
       (t.0, t.1, told ∙ ap kept_entry t.2, omega (arith, low, above_floor f now (Vote.Ready t.0 t.1) (λ i. now) w), t.3, w)
@@ -30,7 +30,7 @@ module _ {now floor : ℕ} {kept : Option Kept} {did : ℕ → Vote → Type 0} 
       (λ b.
       let here : x ≡ now = a.0 ∙ same in
       let told : e ≡ kept_entry kept = subst (λ u. Tells u kept) (sym a.1) tells in
-      let t = tells-now k j c e (omega (arith, ap level a.1)) told (subst (λ z. did z (Vote.Ready j c)) here b) in
+      let t = tells_now k j c e (omega (arith, ap level a.1)) told (subst (λ z. did z (Vote.Ready j c)) here b) in
       (t.0, t.1, t.2, t.3, t.4, inr (subst (λ z. did z (Vote.Ready t.0 t.1)) (sym here) t.5))) dr)
       (λ a. ⊎_elim
       (λ b. absurd (omega (arith, ap level b.1, above_floor f x (Vote.Last k e) (b.0 ∙ same) a)))

@@ -65,7 +65,7 @@ module _ {S : Type 0} (g : Ghosts S) (faulty first : ℕ) (rows rows2 : List Sta
   this =
       let sane = subst (Sane e.board) (sym t.here) (a.sane e.board t.outside) in
       let some = subst (λ s. 1 ≤ many s) (sym t.here) (peopled a e.board t.outside) in
-      stepped g faulty h e t.scheme t.scheme-after t.promised v a.word t.outside.0 sane some
+      stepped g faulty h e t.scheme t.scheme_after t.promised v a.word t.outside.0 sane some
 
   pub row_here : (b : ℕ) → b ≡ e.board → (row_of rows b ≡ e.before) × (row_of rows2 b ≡ e.after)
   row_here b same = (
@@ -94,13 +94,13 @@ module _ {S : Type 0} (g : Ghosts S) (faulty first : ℕ) (rows rows2 : List Sta
   pub onward : (b : ℕ) → Onward (core (row_of rows b)) (core (row_of rows2 b))
   onward = at_row (λ s s2 l l2. Onward (core s) (core s2)) (λ l. moves_onward (deed_at e) _ _ this.plays.moves) (λ s l. record { rises = omega arith; stay = λ w i. refl })
 
-  laws-after : (b : ℕ) → LawsOfRow first (core (row_of rows b)) (deeds_of h b) → LawsOfRow first (core (row_of rows2 b)) (deeds_of (e ∷ h) b)
-  laws-after =
+  laws_after : (b : ℕ) → LawsOfRow first (core (row_of rows b)) (deeds_of h b) → LawsOfRow first (core (row_of rows2 b)) (deeds_of (e ∷ h) b)
+  laws_after =
       at_row (λ s s2 l l2. LawsOfRow first (core s) l → LawsOfRow first (core s2) l2) (λ l p. laws_put first (deed_at e) _ _ l p this.plays.moves) (λ s l p. p)
 
   -- A deed after the step was there before it, or is the step's own.
-  has-after : (b : ℕ) (d : Deed) → Has (deeds_of (e ∷ h) b) d → ((b ≡ e.board) × (deed_at e ≡ Some d)) ⊎ Has (deeds_of h b) d
-  has-after b d p =
+  has_after : (b : ℕ) (d : Deed) → Has (deeds_of (e ∷ h) b) d → ((b ≡ e.board) × (deed_at e ≡ Some d)) ⊎ Has (deeds_of h b) d
+  has_after b d p =
       ⊎_elim (λ same. ⊎_elim (λ new. inl (same, new)) inr (has_put (deed_at e) (deeds_of h b) d (subst (λ l. Has l d) (deeds_here b e h same) p)))
       (λ other. inr (subst (λ l. Has l d) (deeds_else b e h other) p)) (cases_eq b e.board)
 
@@ -126,7 +126,7 @@ module _ {S : Type 0} (g : Ghosts S) (faulty first : ℕ) (rows rows2 : List Sta
   word_after : KeptWord faulty (e ∷ h)
   word_after b act o ok s = ⊎_elim
       (λ now.
-      let z = signed_step g e t.scheme t.scheme-after t.promised (words act) now.1 in
+      let z = signed_step g e t.scheme t.scheme_after t.promised (words act) now.1 in
       let done = told_act act (deed_at e) (deeds_of h b) ok z (fits_some (deed_at e) z.deed z.is this.plays.fits) in
       subst (λ l. DoneAct l act) (sym (deeds_here b e h (sym now.0))) (subst (λ k. DoneAct (put k (deeds_of h b)) act) (sym z.is) done))
       (λ old. deeds_more (λ l. DoneAct l act) (λ d l. done_cons act d l) b e h (a.word b act o ok old))
@@ -140,16 +140,16 @@ module _ {S : Type 0} (g : Ghosts S) (faulty first : ℕ) (rows rows2 : List Sta
         (λ other. subst (Sane b) (sym (row_else b other)) (a.sane b o))
         (cases_eq b e.board);
     lived = record {
-      laws = λ b o. laws-after b (a.lived.laws b o);
+      laws = λ b o. laws_after b (a.lived.laws b o);
       caused = λ b d o p. ⊎_elim
           (λ new. let n = new_deed b d new.0 new.1 in lift b d (omega (arith, n.0)) n.1)
           (λ old. lift b d (a.past b d o old) (a.lived.caused b d o old))
-          (has-after b d p);
+          (has_after b d p);
     };
     past = λ b d o p. ⊎_elim
         (λ new. omega (arith, (new_deed b d new.0 new.1).0, (onward b).rises))
         (λ old. omega (arith, a.past b d o old, (onward b).rises))
-        (has-after b d p);
+        (has_after b d p);
     word = word_after;
   }
 

@@ -87,8 +87,8 @@ module _ (b : ℕ) (below : b < 8) (s : State) (sane : Sane b s) (peopled : 1 �
   floored : (n : ℕ) → Sane b (with_floor s n)
   floored n = record { board = sane.board; room = sane.room; some = sane.some; most = sane.most; own = sane.own; kept = sane.kept }
 
-  manager-board : manager s < 8
-  manager-board = let m = some_member (group s) peopled in (highest_passes (member (group s)) 8 m.0 m.1 m.2).0
+  manager_board : manager s < 8
+  manager_board = let m = some_member (group s) peopled in (highest_passes (member (group s)) 8 m.0 m.1 m.2).0
 
   -- The change makes the next view.
   grows : (c : ℕ) → c < 8 → latest s < 64 → (many s ≡ 1 → member (group s) c ≡ false) → Plays b s (Some (Deed.Changed (latest s) c)) (fresh s.board (grown s.views c))
@@ -142,7 +142,7 @@ module _ (b : ℕ) (below : b < 8) (s : State) (sane : Sane b s) (peopled : 1 �
   hear_plays (Msg.suggest_last v k a es p ak) f h =
       let r = suggest_last_rank v k a es p ak f in
       let board : called_for s (lowest es) < 8 =
-      cond_both (eqb (lowest es).earlier 0) (manager s) (lowest es).change (λ n. n < 8) (λ _. manager-board) (λ _. (lowest_fits v k a es p ak f).change_fits) in
+      cond_both (eqb (lowest es).earlier 0) (manager s) (lowest es).change (λ n. n < 8) (λ _. manager_board) (λ _. (lowest_fits v k a es p ak f).change_fits) in
       record {
         moves = (refl, record { ranked = r.0; low = leb-false _ _ h.timely; tells = tt; after = refl });
         sane = floored _;
@@ -153,8 +153,8 @@ module _ (b : ℕ) (below : b < 8) (s : State) (sane : Sane b s) (peopled : 1 �
   hear_plays (Msg.commit v d n k p a t) f h = stays
 
   -- An ask for c makes nobody suspect but c.
-  suspects-more : (c : ℕ) → Suspecting (core s) c (core (suspecting s c))
-  suspects-more c = record {
+  suspects_more : (c : ℕ) → Suspecting (core s) c (core (suspecting s c))
+  suspects_more c = record {
     suspects = λ a t.
         let l = member_below (insert s.voter.suspects.bits c) a t in
         ⊎_elim inl (λ e. inr (eqb-true a c e)) (or_cases (member s.voter.suspects.bits a) (eqb a c) (sym (inserted s.voter.suspects.bits c a l) ∙ t));
@@ -162,15 +162,15 @@ module _ (b : ℕ) (below : b < 8) (s : State) (sane : Sane b s) (peopled : 1 �
   }
 
   -- The row itself is not suspect after it asked another board out.
-  own-still : (c : ℕ) → (c ≡ s.board → ⊥) → member (insert s.voter.suspects.bits c) b ≡ false
-  own-still c other =
+  own_still : (c : ℕ) → (c ≡ s.board → ⊥) → member (insert s.voter.suspects.bits c) b ≡ false
+  own_still c other =
       inserted s.voter.suspects.bits c b below
       ∙ or_from (member s.voter.suspects.bits b) (eqb b c) sane.own (ne_eqb b c (λ e. other (sym e ∙ sym sane.board)))
 
   pub out_plays : (c : ℕ) → AskedOut s c → Plays b s (Some (out_deed s c)) (suspecting s c)
   out_plays c h =
       let bits = insert s.voter.suspects.bits c in
-      let own = own-still c h.other in
+      let own = own_still c h.other in
       let sane2 : Sane b (suspecting s c) = record { board = sane.board; room = sane.room; some = sane.some; most = sane.most; own = own; kept = sane.kept } in
       let within : member (group s) b ≡ true = ap (member (group s)) (sym sane.board) ∙ h.within in
       let trust = highest_passes (λ a. member (group s) a && not (member bits a)) 8 b below (and_from _ _ within (not_from_false _ own)) in
@@ -178,11 +178,11 @@ module _ (b : ℕ) (below : b < 8) (s : State) (sane : Sane b s) (peopled : 1 �
       let rank : deputy_rank s c ≤ 8 = omega (arith, place_below (group s) (trusted s bits) among, size_le (group s)) in
       cond_both (member bits (manager s)) (Deed.Deputes (latest s) c (deputy_rank s c)) (Deed.Asks (latest s) c) (λ d. Plays b s (Some d) (suspecting s c))
       (λ out. record {
-        moves = (refl, ap (λ m. member bits (manager_in m)) (sym (group_is s)) ∙ out, suspects-more c);
+        moves = (refl, ap (λ m. member bits (manager_in m)) (sym (group_is s)) ∙ out, suspects_more c);
         sane = sane2;
         fits = deputy_allowed (latest s) sane.some sane.most (deputy_rank s c) (omega arith) rank;
       })
-      (λ _. record { moves = (refl, suspects-more c); sane = sane2; fits = notify_allowed (latest s) sane.some sane.most c h.board })
+      (λ _. record { moves = (refl, suspects_more c); sane = sane2; fits = notify_allowed (latest s) sane.some sane.most c h.board })
 
   pub in_plays : (c : ℕ) → AskedInWhen s c → Plays b s (Some (Deed.Asks (latest s) c)) s
   in_plays c h = record {

@@ -35,8 +35,8 @@ module _ (x : ℕ) (low : 1 ≤ x) (high : x ≤ 64) where
   pub deputy_allowed : (k : ℕ) → 1 ≤ k → k ≤ 8 → Allowed (Act.deputy x k)
   deputy_allowed k lk hk = opened 7 x _ (omega arith) refl low high (refl, omega arith, within 1 8 k lk hk, refl)
 
-  entry-allowed : (k : ℕ) (e : Entry) → 1 ≤ k → k ≤ 8 → e.earlier ≤ 8 → e.change < 8 → from_to 0 (cond (eqb e.earlier 0) 0 7) e.change ≡ true → Allowed (Act.last x k e)
-  entry-allowed k e lk hk rank board fits =
+  entry_allowed : (k : ℕ) (e : Entry) → 1 ≤ k → k ≤ 8 → e.earlier ≤ 8 → e.change < 8 → from_to 0 (cond (eqb e.earlier 0) 0 7) e.change ≡ true → Allowed (Act.last x k e)
+  entry_allowed k e lk hk rank board fits =
       opened 9 x _ (omega arith) refl low high
       (refl, omega arith, within 1 8 k lk hk, (refl, omega arith, within 0 8 e.earlier (omega arith) rank, (refl, omega arith, refl, (refl, board, fits, refl))))
 
@@ -46,10 +46,10 @@ KeptFits None = Unit {0}
 KeptFits (Some p) = (1 ≤ p.rank) × (p.rank ≤ 8) × (p.change < 8)
 
 pub last_allowed : (x : ℕ) → 1 ≤ x → x ≤ 64 → (k : ℕ) (p : Option Kept) → 1 ≤ k → k ≤ 8 → KeptFits p → Allowed (Act.last x k (kept_entry p))
-last_allowed x low high k None lk hk fits = entry-allowed x low high k (kept_entry None) lk hk (omega arith) (omega arith) refl
+last_allowed x low high k None lk hk fits = entry_allowed x low high k (kept_entry None) lk hk (omega arith) (omega arith) refl
 last_allowed x low high k (Some p) lk hk fits =
     let seven : ◌≡◌ {A = ℕ} (cond (eqb p.rank 0) 0 7) 7 = cond-false (eqb p.rank 0) 0 7 (ne_eqb p.rank 0 (λ z. omega (arith, z, fits.0))) in
-    entry-allowed x low high k (kept_entry (Some p)) lk hk fits.1 fits.2
+    entry_allowed x low high k (kept_entry (Some p)) lk hk fits.1 fits.2
     (subst (λ n. from_to 0 n p.change ≡ true) (sym seven) (within 0 7 p.change (omega arith) (omega (arith, fits.2))))
 
 ranked : (k : ℕ) → from_to 1 8 k ≡ true → (1 ≤ k) × (k ≤ 8)

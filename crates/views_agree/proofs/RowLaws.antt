@@ -37,8 +37,8 @@ module _ {now floor : ℕ} {kept : Option Kept} {did : ℕ → Vote → Type 0} 
     tells = last_tells_voted p.above p.keeps p.readied p.tells y v same low tells;
   }
 
-  votes-changed : (r r2 : Row) (c : ℕ) → now ≡ r.x → Growing r c r2 → Votes r2.x r2.floor r2.kept did
-  votes-changed r r2 c here g =
+  votes_changed : (r r2 : Row) (c : ℕ) → now ≡ r.x → Growing r c r2 → Votes r2.x r2.floor r2.kept did
+  votes_changed r r2 c here g =
       let next : r2.x ≡ now + 1 = g.next ∙ (λ i. sym here i + 1) in
       record {
         ranked = p.ranked;
@@ -59,7 +59,7 @@ laws_kept first (Deed.Voted y v) r r2 h p s =
     subst (λ z. LawsOfRow first z (Deed.Voted y v ∷ h)) (sym s.1.after)
     (record { votes = voted p.votes y v s.0 s.1.ranked s.1.low s.1.tells; course = p.course; asks = p.asks })
 laws_kept first (Deed.Changed y c) r r2 h p s = record {
-  votes = votes-changed p.votes r r2 c refl s.1;
+  votes = votes_changed p.votes r r2 c refl s.1;
   course = course_changed first r r2 y c p.course s.0 s.1;
   asks = suspects_changed r p.asks r2 c s.1;
 }

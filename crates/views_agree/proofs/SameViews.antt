@@ -24,8 +24,8 @@ ChangesAsked g =
 
 module _ (g : Group) (l : Lived g) (few : Few g) where
   -- The laws inside a view on whose members the rows agree.
-  laws-in : (x m : ℕ) → ((b : ℕ) → Outside g.faulty b → x ≤ (g.row b).x → (g.row b).views x ≡ m) → Laws g.faulty m (acts_in g.deeds x)
-  laws-in x m same =
+  laws_in : (x m : ℕ) → ((b : ℕ) → Outside g.faulty b → x ≤ (g.row b).x → (g.row b).views x ≡ m) → Laws g.faulty m (acts_in g.deeds x)
+  laws_in x m same =
       let a : Acts = acts_in g.deeds x in
       let here : (b : ℕ) (v : Vote) → Outside g.faulty b → Did (g.deeds b) x v → (g.row b).views x ≡ m =
       λ b v o d. same b o (reached (l.laws b o).votes.above x v d) in
@@ -54,7 +54,7 @@ module _ (g : Group) (l : Lived g) (few : Few g) where
       let before : (g.row d).views x ≡ (g.row b).views x = same_from x d b od ob later (omega arith) (omega arith) in
       let t = l.caused b (Deed.Changed x mb.0) ob (changed_has _ x _ mb.1) in
       let u = l.caused d (Deed.Changed x md.0) od (changed_has _ x _ md.1) in
-      let laws = laws-in x ((g.row b).views x) (λ e oe he. same_from x e b oe ob later he (omega arith)) in
+      let laws = laws_in x ((g.row b).views x) (λ e oe he. same_from x e b oe ob later he (omega arith)) in
       let moved = subst (λ z. Readies g.faulty z (acts_in g.deeds x) u.0 md.0) before u.1 in
       let one : mb.0 ≡ md.0 = one_change (sound b x ob later (omega arith)) (acts_in g.deeds x) laws t.0 u.0 _ _ t.1 moved in
       let eb = (vb.past x mb.0 mb.1).2 in
@@ -70,4 +70,4 @@ module _ (g : Group) (l : Lived g) (few : Few g) where
 
   pub changes_asked : ChangesAsked g
   changes_asked b x k c ob h1 h2 r =
-      somebody_asked (sound b x ob h1 h2) (acts_in g.deeds x) (laws-in x ((g.row b).views x) (λ e oe he. same_from x e b oe ob h1 he h2)) k c r
+      somebody_asked (sound b x ob h1 h2) (acts_in g.deeds x) (laws_in x ((g.row b).views x) (λ e oe he. same_from x e b oe ob h1 he h2)) k c r

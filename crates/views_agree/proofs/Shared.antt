@@ -4,7 +4,7 @@ use Rattle.std.proofs.Common.{◌≡◌, ℕ, ◌<◌, true, arith}
 use Rattle.boards.specs.Boards.{member, size}
 use Rattle.boards.proofs.Meets.{overlap}
 use Rattle.views.specs.Shares.{share, quorum}
-use Rattle.views.proofs.Rule.{quorum_above, overlap as shares-overlap}
+use Rattle.views.proofs.Rule.{quorum_above, overlap as shares_overlap}
 use Rattle.views_agree.specs.Agreement.{Outside}
 use Rattle.views_agree.proofs.OneView.{Sound, Certificate}
 
@@ -20,7 +20,7 @@ pub record Sharing (faulty : ℕ) (P Q : ℕ → Type 0) (a b : ℕ) : Type 0 wh
 module _ {faulty m : ℕ} (s : Sound faulty m) where
   pub shared : {P Q : ℕ → Type 0} (x : Certificate faulty m (quorum (size m)) P) (y : Certificate faulty m (quorum (size m)) Q) → Sharing faulty P Q x.set y.set
   shared x y =
-      let r = overlap m x.set y.set faulty x.within y.within (omega (arith, s.few, x.large, y.large, shares-overlap (size m) s.some)) in
+      let r = overlap m x.set y.set faulty x.within y.within (omega (arith, s.few, x.large, y.large, shares_overlap (size m) s.some)) in
       record {
         board = r.0;
         in_first = r.2;

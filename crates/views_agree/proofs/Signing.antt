@@ -5,7 +5,7 @@ use Rattle.std.proofs.lemmas.Bool.{and_parts, eqb-true, leb-true}
 use Rattle.boards.specs.Boards.{member}
 use Rattle.codes.specs.declared.Refusal.{Refusal}
 use Rattle.schemes.specs.declared.Scheme.{Ghosts}
-use Rattle.schemes.specs.Meaning.{Signed as Signed-good}
+use Rattle.schemes.specs.Meaning.{Signed as SignedGood}
 use Rattle.wire.specs.Messages.{Msg, kind}
 use Rattle.wire.specs.Acts.{Act, Allowed, words}
 use Rattle.wire.proofs.Answered.{words_tell}
@@ -179,23 +179,23 @@ module _ {S : Type 0} (g : Ghosts S) where
   }
 
   -- A step is a call with some list of reasons.
-  pub record Called-as (c : Call) (e : Step) (s s2 : S) : Type 0 where
+  pub record CalledAs (c : Call) (e : Step) (s s2 : S) : Type 0 where
     pub why : Option Refusal
     pub called : Called g why (outcome c e.before) e.before s e.offered e.answer e.after s2 e.written
 
-  pub called_as : (c : Call) (e : Step) (s s2 : S) → Promised g c e s s2 → Called-as c e s s2
+  pub called_as : (c : Call) (e : Step) (s s2 : S) → Promised g c e s s2 → CalledAs c e s s2
   called_as (Call.ask_out c) e s s2 p = record { why = _; called = p }
   called_as (Call.ask_in c y) e s s2 p = record { why = _; called = p }
   called_as (Call.hear m) e s s2 p = record { why = _; called = p.2 }
 
   -- A step in which words were signed: what it did, and the effect that signed them.
-  record Signing-step (e : Step) (s s2 : S) (w : List ℕ) : Type 0 where
+  record SigningStep (e : Step) (s s2 : S) (w : List ℕ) : Type 0 where
     sent : Sent
     ok : e.answer ≡ Ok sent
     done : Done g e.before.board (outcome e.call e.before).1 e.offered s sent s2 e.written
     effect : SigningEffect (outcome e.call e.before).1 w
 
-  signing_step : (e : Step) (s s2 : S) → Promised g e.call e s s2 → (w : List ℕ) → Signs e w → Signing-step e s s2 w
+  signing_step : (e : Step) (s s2 : S) → Promised g e.call e s s2 → (w : List ℕ) → Signs e w → SigningStep e s s2 w
   signing_step e s s2 p w h =
       let q = called_as e.call e s s2 p in
       let o = outcome e.call e.before in
@@ -221,8 +221,8 @@ module _ {S : Type 0} (g : Ghosts S) where
       let d : Done g e.before.board (Effect.signs f.to f.act f.proof f.acks) e.offered s z.sent s2 e.written =
       subst (λ y. Done g e.before.board y e.offered s z.sent s2 e.written) f.is z.done in (
         d.tag,
-        subst (λ b. Signed-good (g.good s) (g.good s2) (g.spent s) b w d.tag) same
-            (subst (λ y. Signed-good (g.good s) (g.good s2) (g.spent s) e.before.board y d.tag) (sym f.told) d.signed),
+        subst (λ b. SignedGood (g.good s) (g.good s2) (g.spent s) b w d.tag) same
+            (subst (λ y. SignedGood (g.good s) (g.good s2) (g.spent s) e.before.board y d.tag) (sym f.told) d.signed),
       )
 
 -- An allowed act whose words a deed signed is what the deed does.

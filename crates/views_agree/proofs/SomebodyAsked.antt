@@ -11,9 +11,9 @@ SomebodyAsked faulty m a = (k c : ℕ) → Readies faulty m a k c → Somebody f
 
 module _ {faulty m : ℕ} (s : Sound faulty m) (a : Acts) (l : Laws faulty m a) where
   -- The cause of acks, by how far their rank is below the highest.
-  asked-within : (far k c : ℕ) → size m < k + far → Acks faulty m a k c → Somebody faulty m a c
-  asked-within zero k c h x = absurd (omega (arith, rank_at_most s a l k c x))
-  asked-within (suc far) k c h x =
+  asked_within : (far k c : ℕ) → size m < k + far → Acks faulty m a k c → Somebody faulty m a c
+  asked_within zero k c h x = absurd (omega (arith, rank_at_most s a l k c x))
+  asked_within (suc far) k c h x =
       let r = in_quorum s x in
       ⊎_elim
       (λ t.
@@ -32,9 +32,9 @@ module _ {faulty m : ℕ} (s : Sound faulty m) (a : Acts) (l : Laws faulty m a) 
         outside = u.outside;
         asked = subst (a.asked u.board) (sym none.1) (l.deputy_cause u.board k u.outside u.did_first);
       })
-      (λ some. asked-within far some.0 c (omega (arith, some.1)) some.3)
+      (λ some. asked_within far some.0 c (omega (arith, some.1)) some.3)
       z.choice)
       (l.ack_cause r.board k c r.outside r.did_first)
 
   pub somebody_asked : SomebodyAsked faulty m a
-  somebody_asked k c x = asked-within (size m + 1) k c (omega arith) (ready_acks s a l k c x)
+  somebody_asked k c x = asked_within (size m + 1) k c (omega arith) (ready_acks s a l k c x)

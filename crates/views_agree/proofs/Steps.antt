@@ -27,13 +27,13 @@ still : (b : ℕ) (st st2 : State) → Sane b st → st2 ≡ st → Plays b st N
 still b st st2 sane e = subst (Plays b st None) (sym e) (record { moves = refl; sane = sane; fits = tt })
 
 module _ {S : Type 0} (g : Ghosts S) (b : ℕ) (below : b < 8) (st : State) (sane : Sane b st) (peopled : 1 ≤ many st) (st2 : State) (s s2 : S) (out out2 : List ℕ) where
-  step-plays : (c : Call) (r : Result Sent Refusal) → Promised g c (step_of b c r out out2 st st2) s s2 → Plays b st (deed_in r c st) st2
-  step-plays (Call.ask_out c) (Ok a) p = subst (Plays b st _) (sym p.1) (out_plays b below st sane peopled c (asked_out_when st c _ _ p.0))
-  step-plays (Call.ask_out c) (Err e) p = still b st st2 sane p.1
-  step-plays (Call.ask_in c y) (Ok a) p = subst (Plays b st _) (sym p.1) (in_plays b below st sane peopled c (asked_in_when st c y _ _ p.0))
-  step-plays (Call.ask_in c y) (Err e) p = still b st st2 sane p.1
-  step-plays (Call.hear m) (Ok a) p = subst (Plays b st _) (sym p.2.1) (hear_plays b below st sane peopled m p.0 (taken_up st m _ _ _ p.2.0))
-  step-plays (Call.hear m) (Err e) p = still b st st2 sane p.2.1
+  step_plays : (c : Call) (r : Result Sent Refusal) → Promised g c (step_of b c r out out2 st st2) s s2 → Plays b st (deed_in r c st) st2
+  step_plays (Call.ask_out c) (Ok a) p = subst (Plays b st _) (sym p.1) (out_plays b below st sane peopled c (asked_out_when st c _ _ p.0))
+  step_plays (Call.ask_out c) (Err e) p = still b st st2 sane p.1
+  step_plays (Call.ask_in c y) (Ok a) p = subst (Plays b st _) (sym p.1) (in_plays b below st sane peopled c (asked_in_when st c y _ _ p.0))
+  step_plays (Call.ask_in c y) (Err e) p = still b st st2 sane p.1
+  step_plays (Call.hear m) (Ok a) p = subst (Plays b st _) (sym p.2.1) (hear_plays b below st sane peopled m p.0 (taken_up st m _ _ _ p.2.0))
+  step_plays (Call.hear m) (Err e) p = still b st st2 sane p.2.1
 
 -- What the boards signed in these steps they did.
 abbrev pub KeptWord : ℕ → List Step → Type 0
@@ -44,17 +44,17 @@ asks_uncaused faulty m a true x c k = tt
 asks_uncaused faulty m a false x c k = tt
 
 module _ {S : Type 0} (g : Ghosts S) (faulty : ℕ) (h : List Step) (word : KeptWord faulty h) (b : ℕ) (st st2 : State) (s s2 : S) (out out2 : List ℕ) where
-  step-caused : (c : Call) (r : Result Sent Refusal) → Promised g c (step_of b c r out out2 st st2) s s2 → VouchedFor faulty h c r
+  step_caused : (c : Call) (r : Result Sent Refusal) → Promised g c (step_of b c r out out2 st st2) s s2 → VouchedFor faulty h c r
       → CausedIf faulty (group st) (acts_in (deeds_of h) (latest st)) (deed_in r c st)
-  step-caused (Call.ask_out c) (Ok a) p v = asks_uncaused faulty (group st) _ (member (insert st.voter.suspects.bits c) (manager st)) (latest st) c (deputy_rank st c)
-  step-caused (Call.ask_out c) (Err e) p v = tt
-  step-caused (Call.ask_in c y) (Ok a) p v = tt
-  step-caused (Call.ask_in c y) (Err e) p v = tt
-  step-caused (Call.hear m) (Ok a) p v = heard_caused faulty (deeds_of h) st m p.0 (taken_up st m _ _ _ p.2.0) (record {
+  step_caused (Call.ask_out c) (Ok a) p v = asks_uncaused faulty (group st) _ (member (insert st.voter.suspects.bits c) (manager st)) (latest st) c (deputy_rank st c)
+  step_caused (Call.ask_out c) (Err e) p v = tt
+  step_caused (Call.ask_in c y) (Ok a) p v = tt
+  step_caused (Call.ask_in c y) (Err e) p v = tt
+  step_caused (Call.hear m) (Ok a) p v = heard_caused faulty (deeds_of h) st m p.0 (taken_up st m _ _ _ p.2.0) (record {
     set = λ d o i. word d (act_of m d) o (signed_allowed m d p.0 i) (v.0 d o i);
     proof = λ d o i. word d (proved_act m) o (proved_allowed m d p.0 i) (v.1 d o i);
   })
-  step-caused (Call.hear m) (Err e) p v = tt
+  step_caused (Call.hear m) (Err e) p v = tt
 
 -- What a step does at its row, and why.
 pub record Stepped (faulty : ℕ) (h : List Step) (e : Step) : Type 0 where
@@ -64,8 +64,8 @@ pub record Stepped (faulty : ℕ) (h : List Step) (e : Step) : Type 0 where
 pub stepped : {S : Type 0} (g : Ghosts S) (faulty : ℕ) (h : List Step) (e : Step) (s s2 : S) → Promised g e.call e s s2 → VouchedFor faulty h e.call e.answer
     → KeptWord faulty h → e.board < 8 → Sane e.board e.before → 1 ≤ many e.before → Stepped faulty h e
 stepped g faulty h e s s2 p v word below sane peopled = record {
-  plays = step-plays g e.board below e.before sane peopled e.after s s2 e.offered e.written e.call e.answer p;
-  caused = step-caused g faulty h word e.board e.before e.after s s2 e.offered e.written e.call e.answer p v;
+  plays = step_plays g e.board below e.before sane peopled e.after s s2 e.offered e.written e.call e.answer p;
+  caused = step_caused g faulty h word e.board e.before e.after s s2 e.offered e.written e.call e.answer p v;
 }
 
 -- An ask among the deeds of a step is an accepted call that asks.

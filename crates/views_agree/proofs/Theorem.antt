@@ -34,9 +34,9 @@ one_view {faulty} {first} {rows} {h} a bound b d x v w ob od pb pd =
 
 module _ {S : Type 0} (g : Ghosts S) (faulty first : ℕ) where
   -- What is bounded after a step was bounded before it, since views stay.
-  bounded-before : (rows rows2 : List State) (h : List Step) (e : Step) → Alive faulty first rows h → Taken g faulty e rows rows2 → VouchedFor faulty h e.call e.answer
+  bounded_before : (rows rows2 : List State) (h : List Step) (e : Step) → Alive faulty first rows h → Taken g faulty e rows rows2 → VouchedFor faulty h e.call e.answer
       → Bounded faulty rows2 → Bounded faulty rows
-  bounded-before rows rows2 h e a t v bound b x w o p =
+  bounded_before rows rows2 h e a t v bound b x w o p =
       let r = in_range (row_of rows b).views x w p.0 p.1 in
       bound b x w o ((onward g faulty first rows rows2 h e a t v b).stay x r.1 ∙ p.0, p.1)
 
@@ -46,7 +46,7 @@ module _ {S : Type 0} (g : Ghosts S) (faulty first : ℕ) where
     earned Leads.begin v bound b x o h1 h2 = absurd (omega (arith, h1, h2, ap latest (st.1 b o.0), begun_latest (the_set first)))
     earned (Leads.next {rows} {rows2} {h} run e t) v bound b x o h1 h2 =
         let a = lives g faulty first start some st run v.0 in
-        let before = bounded-before rows rows2 h e a t v.1 bound in
+        let before = bounded_before rows rows2 h e a t v.1 bound in
         ⊎_elim (λ old. earned_still g faulty first rows rows2 h e a t v.1 b x (earned run v.0 before b x o h1 old) old)
         (λ new. earned_now g faulty first rows rows2 h e a t v.1 b x o (few a before) h1 new h2) (cases_lt x (latest (row_of rows b)))
 

@@ -10,7 +10,7 @@ use Rattle.boards.proofs.Sets.{size_same, size_none}
 use Rattle.views.specs.Shares.{share, quorum}
 use Rattle.views.specs.Groups.{toggle}
 use Rattle.views.specs.Histories.{members_from, members_of, begun, grown}
-use Rattle.schemes.specs.Meaning.{signable, sized, Signed as Signed-good}
+use Rattle.schemes.specs.Meaning.{signable, sized, Signed as SignedGood}
 use Rattle.grammar.specs.Grammar.{Grammar}
 use Rattle.grammar.proofs.Held.{Held, stand}
 use Rattle.wire.specs.Fields.{graded, tagged}
@@ -34,7 +34,7 @@ can_sign : (b : ℕ) (a : Act) → b < 8 → Allowed a → signable b (words a) 
 can_sign b a h ok = let l = words_long a ok in and_from _ _ (lt-ltb b 8 h) (and_from _ _ (lt-ltb 0 (length (words a)) (omega (arith, l.0))) (le-leb (length (words a)) 64 (omega (arith, l.1))))
 
 -- Board 0 signs an allowed act.
-signs_good : (a : Act) → Allowed a → Signed-good (trusting.good tt) (trusting.good tt) false 0 (words a) 0
+signs_good : (a : Act) → Allowed a → SignedGood (trusting.good tt) (trusting.good tt) false 0 (words a) 0
 signs_good a ok =
     let can = can_sign 0 a (omega arith) ok in
     let long = (and_parts (ltb 0 8) (sized (words a)) can).1 in
@@ -75,7 +75,7 @@ vote_taken st m rows to a f group proof may does ok board here = record {
   outside = (omega arith, member_none 0);
   here = here;
   scheme = tt;
-  scheme-after = tt;
+  scheme_after = tt;
   promised = (f, group, (subst (λ t. hear_refusal st m 128 t false ≡ None) (sym (all_good m f proof)) may, refl, signing_done (heard st m).1 st.board to a does board ok));
   others = refl;
 }
@@ -184,7 +184,7 @@ asks_taken = record {
   outside = (omega arith, member_none 0);
   here = refl;
   scheme = tt;
-  scheme-after = tt;
+  scheme_after = tt;
   promised = (refl, refl, signing_done (asked_in s0 1).1 0 (only (manager s0)) (Act.notify 1 1) refl refl (notify_allowed 1 (omega arith) (omega arith) 1 (omega arith)));
   others = refl;
 }
@@ -203,7 +203,7 @@ changes_taken = record {
   outside = (omega arith, member_none 0);
   here = refl;
   scheme = tt;
-  scheme-after = tt;
+  scheme_after = tt;
   promised = (change_formed, refl, (subst (λ t. hear_refusal s2 the_change 128 t false ≡ None) (sym (all_good the_change change_formed refl)) refl, refl, (record { answer = refl; bytes = refl }, refl)));
   others = refl;
 }

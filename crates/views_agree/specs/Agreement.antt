@@ -15,7 +15,7 @@ use Rattle.row.specs.declared.state.Sent.{Sent}
 use Rattle.row.specs.States.{the_set, latest, fresh}
 use Rattle.row.specs.Refusals.{of_group}
 use Rattle.row.specs.Effects.{lone}
-use Rattle.row.specs.Calls.{Posted, Asks-out, Asks-in, Hears}
+use Rattle.row.specs.Calls.{Posted, AsksOut, AsksIn, Hears}
 
 -- A call of the membership layer: to ask a board out, to ask one in with this delivery view, to hear a message.
 pub data Call : Type 0 where
@@ -48,8 +48,8 @@ Started first rows = (length rows ≡ 8) × ((b : ℕ) → b < 8 → row_of rows
 module _ {S : Type 0} (g : Ghosts S) where
   -- What the contract of a call promises, the scheme going from s to s2. A message that is heard is formed, and of kinds 1 to 10.
   abbrev pub Promised : Call → Step → S → S → Type 0
-  Promised (Call.ask_out c) e s s2 = Asks-out g e.before s c e.offered e.answer e.after s2 e.written
-  Promised (Call.ask_in c y) e s s2 = Asks-in g e.before s c y e.offered e.answer e.after s2 e.written
+  Promised (Call.ask_out c) e s s2 = AsksOut g e.before s c e.offered e.answer e.after s2 e.written
+  Promised (Call.ask_in c y) e s s2 = AsksIn g e.before s c y e.offered e.answer e.after s2 e.written
   Promised (Call.hear m) e s s2 = Formed m × (of_group m ≡ true) × Hears g e.before s m e.offered e.answer e.after s2 e.written
 
   -- A step from eight rows to eight: at the row of a board outside the faulty ones, as promised for some states of the scheme; the other rows stay.
@@ -57,8 +57,8 @@ module _ {S : Type 0} (g : Ghosts S) where
     pub outside : Outside faulty e.board
     pub here : e.before ≡ row_of rows e.board
     pub scheme : S
-    pub scheme-after : S
-    pub promised : Promised e.call e scheme scheme-after
+    pub scheme_after : S
+    pub promised : Promised e.call e scheme scheme_after
     pub others : rows2 ≡ slice_set rows e.board e.after
 
   -- A history: steps, the latest first, that lead from the rows at the start to the rows as they are.

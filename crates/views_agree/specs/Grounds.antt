@@ -2,7 +2,7 @@
 -- In one of four steps board 0, alone in view 1, asks board 1 in, and defines view 2 with both.
 use Rattle.std.specs.Prelude.{◌≡◌, ℕ, false, List}
 use Rattle.schemes.specs.declared.Scheme.{Ghosts}
-use Rattle.schemes.specs.Meaning.{signable, Signed as Signed-good}
+use Rattle.schemes.specs.Meaning.{signable, Signed as SignedGood}
 use Rattle.schemes.specs.Bounds.{signable_says}
 use Rattle.row.specs.declared.state.State.{State}
 use Rattle.views_agree.specs.Agreement.{Step, Started, Promised, Leads, Signs, Vouched, Bounded, Defines}
@@ -11,7 +11,7 @@ use Rattle.views_agree.specs.Agreement.{Step, Started, Promised, Leads, Signs, V
 abbrev pub SignedWasHanded : {S : Type 0} → Ghosts S → Type 0
 SignedWasHanded {S} g =
     (e : Step) (s s2 : S) → Promised g e.call e s s2 → e.before.board ≡ e.board
-    → (w : List ℕ) → Signs e w → (tag : ℕ) × Signed-good (g.good s) (g.good s2) (g.spent s) e.board w tag
+    → (w : List ℕ) → Signs e w → (tag : ℕ) × SignedGood (g.good s) (g.good s2) (g.spent s) e.board w tag
 
 -- A scheme to which every tag is good for what can be signed, and which is never spent: the theorem asks nothing more of one.
 abbrev pub trusting : Ghosts (Unit {0})

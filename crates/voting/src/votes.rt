@@ -9,7 +9,7 @@ ghost use Rattle.row.specs.Rows.{keeps};
 ghost use Rattle.row.specs.States.{group, latest, many, seat, with_voter, with_floor};
 ghost use Rattle.row.specs.Effects.{Effect, acks, readies, tells, called_for, heard};
 ghost use Rattle.row.specs.Refusals.{answered};
-ghost use Rattle.sending.specs.Sends.{Did, Heard-if, Speakable};
+ghost use Rattle.sending.specs.Sends.{Did, HeardIf, Speakable};
 ghost use Rattle.voting.specs.Votes.{heard_count, keeping, Taken, WholeTags};
 
 use crate::voter::{heard_count, keeping, kept_entry, lowered, shown_by};
@@ -182,7 +182,7 @@ pub fn hear<S: Scheme>(
     m: &Message<'_>,
     out: &mut [u8],
 ) -> Option<Result<Sent, Refusal>>
-    ensures { Heard-if S.Scheme answered row.old.state scheme.old (meaning m.now) out.old result row.new.state scheme.new out.new }
+    ensures { HeardIf S.Scheme answered row.old.state scheme.old (meaning m.now) out.old result row.new.state scheme.new out.new }
 {
     if !answered(m) {
         return None;
