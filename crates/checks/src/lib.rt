@@ -65,7 +65,7 @@ fn tag_in(m: &Message<'_>, part: Part, board: u8) -> Option<u64>
 
 // Whether the statement has words and the scheme finds the tag good for the board and them.
 fn holds<S: Scheme>(scheme: &S, board: u8, act: Statement<'_>, tag: u64) -> bool
-    ensures { Decides result (StandsFor (good scheme.now) board (said act.entry) tag) }
+    ensures { Decides result (StandsFor (S.good scheme.now) board (said act.entry) tag) }
 {
     match act.words() {
         Some(words) => scheme.check(board, words.as_slice(), tag),
@@ -75,7 +75,7 @@ fn holds<S: Scheme>(scheme: &S, board: u8, act: Statement<'_>, tag: u64) -> bool
 
 // Whether the board's tag in a part is sound: it is there, and holds for what it stands for.
 fn is_sound<S: Scheme>(scheme: &S, m: &Message<'_>, part: Part, board: u8) -> bool
-    ensures { Decides result (Sound part (good scheme.now) (meaning m.now) board) }
+    ensures { Decides result (Sound part (S.good scheme.now) (meaning m.now) board) }
 {
     let Some(act) = stated(m, part, board) else {
         return false;
@@ -88,7 +88,7 @@ fn is_sound<S: Scheme>(scheme: &S, m: &Message<'_>, part: Part, board: u8) -> bo
 
 // The boards of a part whose tags are sound, each of the eight decided.
 fn sound_boards<S: Scheme>(scheme: &S, m: &Message<'_>, part: Part) -> Set
-    ensures { Decided part (good scheme.now) (meaning m.now) 8 result.bits }
+    ensures { Decided part (S.good scheme.now) (meaning m.now) 8 result.bits }
 {
     let mut found = Set::EMPTY;
     for board in 0..8 {
@@ -101,30 +101,30 @@ fn sound_boards<S: Scheme>(scheme: &S, m: &Message<'_>, part: Part) -> Set
 
 // The boards of a part whose tags are good.
 pub fn good_boards<S: Scheme>(scheme: &S, m: &Message<'_>, part: Part) -> Set
-    ensures sound { SoundBoards part (good scheme.now) (meaning m.now) result.bits }
-    ensures formed { GoodBoards part (good scheme.now) (meaning m.now) result.bits }
+    ensures sound { SoundBoards part (S.good scheme.now) (meaning m.now) result.bits }
+    ensures formed { GoodBoards part (S.good scheme.now) (meaning m.now) result.bits }
 {
     sound_boards(scheme, m, part)
 }
 
 // Whether every board of a part has a good tag in it.
 fn part_good<S: Scheme>(scheme: &S, m: &Message<'_>, part: Part) -> bool
-    ensures { Decides result (PartSound part (good scheme.now) (meaning m.now)) }
+    ensures { Decides result (PartSound part (S.good scheme.now) (meaning m.now)) }
 {
     boards_of(m, part).within(good_boards(scheme, m, part))
 }
 
 // Whether every tag of both parts is sound.
 fn all_sound<S: Scheme>(scheme: &S, m: &Message<'_>) -> bool
-    ensures { Decides result (AllSound (good scheme.now) (meaning m.now)) }
+    ensures { Decides result (AllSound (S.good scheme.now) (meaning m.now)) }
 {
     part_good(scheme, m, Part::Signers) && part_good(scheme, m, Part::Proof)
 }
 
 // Whether all tags of a message are good, those of its signers and those of its proof.
 pub fn all_good<S: Scheme>(scheme: &S, m: &Message<'_>) -> bool
-    ensures sound { Decides result (AllSound (good scheme.now) (meaning m.now)) }
-    ensures formed { TellsGenuine (good scheme.now) (meaning m.now) result }
+    ensures sound { Decides result (AllSound (S.good scheme.now) (meaning m.now)) }
+    ensures formed { TellsGenuine (S.good scheme.now) (meaning m.now) result }
 {
     all_sound(scheme, m)
 }

@@ -81,7 +81,7 @@ fn deputy(row: &Row, rank: u8) -> Statement<'static>
 
 // A notify to the manager; it is all that an ask for a board to join does.
 pub(crate) fn notify<S: Scheme>(row: &Row, scheme: &mut S, change: u8, out: &mut [u8]) -> Sent
-    requires { (change < 8) × (128 ≤ length out.old) × (spent scheme.old ≡ false) }
+    requires { (change < 8) × (128 ≤ length out.old) × (S.spent scheme.old ≡ false) }
     ensures { Done S.Scheme row.now.state.board (notifies row.now.state change) out.old scheme.old result scheme.new out.new }
 {
     let to = Set::only(manager(row));
@@ -93,7 +93,7 @@ pub(crate) fn notify<S: Scheme>(row: &Row, scheme: &mut S, change: u8, out: &mut
 
 // A deputy message to a member, which names its rank.
 fn deputise<S: Scheme>(row: &Row, scheme: &mut S, board: u8, out: &mut [u8]) -> Sent
-    requires { (member (group row.now.state) board ≡ true) × (128 ≤ length out.old) × (spent scheme.old ≡ false) }
+    requires { (member (group row.now.state) board ≡ true) × (128 ≤ length out.old) × (S.spent scheme.old ≡ false) }
     ensures { Done S.Scheme row.now.state.board (deputises row.now.state board) out.old scheme.old result scheme.new out.new }
 {
     match row.view().rank(board) {
@@ -113,7 +113,7 @@ fn deputise<S: Scheme>(row: &Row, scheme: &mut S, board: u8, out: &mut [u8]) -> 
 
 // An ask for a member to leave: it is suspect from now on.
 pub(crate) fn asked_out<S: Scheme>(row: &mut Row, scheme: &mut S, c: u8, out: &mut [u8]) -> Sent
-    requires { (c < 8) × (inside row.old.state ≡ true) × (c ≢ row.old.state.board) × (128 ≤ length out.old) × (spent scheme.old ≡ false) }
+    requires { (c < 8) × (inside row.old.state ≡ true) × (c ≢ row.old.state.board) × (128 ≤ length out.old) × (S.spent scheme.old ≡ false) }
     ensures { Did S.Scheme (asked_out row.old.state c) row.old.state scheme.old out.old result row.new.state scheme.new out.new }
 {
     let suspects = insert(row.state.voter.suspects, c);

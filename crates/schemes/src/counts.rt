@@ -14,7 +14,7 @@ pub struct Tagged {
 
 // The number of good ones among the tags.
 pub fn count_good<S: Scheme>(scheme: &S, words: &[u8], tags: &[Tagged]) -> usize
-    ensures { result ≡ good_count (good scheme.now) words.now tags.now }
+    ensures { result ≡ good_count (S.good scheme.now) words.now tags.now }
 {
     let mut count = 0;
     for one in tags {

@@ -6,14 +6,14 @@ use super::Scheme;
 
 // Whatever is good after some calls was good before them, or one of them signed it.
 pub fn good_was_signed<S: Scheme>(_scheme: &S) -> u8
-    ensures { Earned {S = S} good spent }
+    ensures { Earned {S = S} S.good S.spent }
 {
     0
 }
 
 // Whatever is good stays good.
 pub fn good_stays<S: Scheme>(_scheme: &S) -> u8
-    ensures { Lasting {S = S} good spent }
+    ensures { Lasting {S = S} S.good S.spent }
 {
     0
 }

@@ -66,7 +66,7 @@ fn vote<S: Scheme>(
     statement: Statement<'_>,
     out: &mut [u8],
 ) -> Sent
-    requires { (keeps voter ≡ true) × (voter.suspects ≡ row.old.state.voter.suspects) × Speakable row.old.state.board (said statement) 0 [] (length out.old) (spent scheme.old) }
+    requires { (keeps voter ≡ true) × (voter.suspects ≡ row.old.state.voter.suspects) × Speakable row.old.state.board (said statement) 0 [] (length out.old) (S.spent scheme.old) }
     ensures { Did S.Scheme (with_voter row.old.state voter, Effect.signs (only (seat (group row.old.state) rank)) (said statement.entry) 0 []) row.old.state scheme.old out.old result row.new.state scheme.new out.new }
 {
     let to = seat(row, rank);
@@ -81,7 +81,7 @@ fn vote<S: Scheme>(
 
 // An ack of the last rank for the change that is suggested.
 fn suggest<S: Scheme>(row: &mut Row, scheme: &mut S, change: u8, out: &mut [u8]) -> Sent
-    requires { (change < 8) × (128 ≤ length out.old) × (spent scheme.old ≡ false) }
+    requires { (change < 8) × (128 ≤ length out.old) × (S.spent scheme.old ≡ false) }
     ensures { Did S.Scheme (with_floor row.old.state (3 * many row.old.state - 1), acks row.old.state (many row.old.state) change) row.old.state scheme.old out.old result row.new.state scheme.new out.new }
 {
     let rank = row.view().len();
@@ -100,7 +100,7 @@ fn proposal<S: Scheme>(
     set: Set,
     out: &mut [u8],
 ) -> Sent
-    requires { WholeTags (meaning m.now) set.bits × (1 ≤ size set.bits) × (1 ≤ rank) × (rank ≤ 8) × (change < 8) × (128 ≤ length out.old) × (spent scheme.old ≡ false) }
+    requires { WholeTags (meaning m.now) set.bits × (1 ≤ size set.bits) × (1 ≤ rank) × (rank ≤ 8) × (change < 8) × (128 ≤ length out.old) × (S.spent scheme.old ≡ false) }
     ensures { Did S.Scheme (with_voter row.old.state (keeping row.old.state.voter (3 * rank - 2) rank change (heard_count (meaning m.now) set.bits)), readies row.old.state rank change) row.old.state scheme.old out.old result row.new.state scheme.new out.new }
 {
     let voter = keeping(
@@ -116,7 +116,7 @@ fn proposal<S: Scheme>(
 
 // A last that tells the kept proposal, with its acks as proof, or none.
 fn query<S: Scheme>(row: &mut Row, scheme: &mut S, rank: u8, out: &mut [u8]) -> Sent
-    requires { (1 ≤ rank) × (rank ≤ 8) × (128 ≤ length out.old) × (spent scheme.old ≡ false) }
+    requires { (1 ≤ rank) × (rank ≤ 8) × (128 ≤ length out.old) × (S.spent scheme.old ≡ false) }
     ensures { Did S.Scheme (with_floor row.old.state (3 * rank), tells row.old.state rank) row.old.state scheme.old out.old result row.new.state scheme.new out.new }
 {
     let voter = row.state.voter;
@@ -147,7 +147,7 @@ fn suggest_last<S: Scheme>(
     low: Entry,
     out: &mut [u8],
 ) -> Sent
-    requires { (1 ≤ rank) × (rank ≤ 8) × (low.change < 8) × (128 ≤ length out.old) × (spent scheme.old ≡ false) }
+    requires { (1 ≤ rank) × (rank ≤ 8) × (low.change < 8) × (128 ≤ length out.old) × (S.spent scheme.old ≡ false) }
     ensures { Did S.Scheme (with_floor row.old.state (3 * rank - 1), acks row.old.state rank (called_for row.old.state low)) row.old.state scheme.old out.old result row.new.state scheme.new out.new }
 {
     let change = called_for(row, low);

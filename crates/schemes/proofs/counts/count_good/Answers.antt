@@ -10,7 +10,7 @@ loop-one-preserved g c =
     let good = g.S.Scheme.good c.args.scheme.now in
     let words = c.args.words.now in
     let tags = c.args.tags.now in
-    let i = c.loop-one.one_Index in
+    let i = c.loop-one.one-index in
     let here = good (get_or tags i no_tag).board words (get_or tags i no_tag).tag in
     let within : i < length tags = omega arith in
     let more = count_more good words tags i within in
@@ -26,5 +26,5 @@ loop-one-preserved g c =
 pub returns : goal.returns
 returns g c =
     let good = g.S.Scheme.good c.args.scheme.now in
-    let all = count_all good c.args.words.now c.args.tags.now c.loop-one.one_Index (omega arith) in
+    let all = count_all good c.args.words.now c.args.tags.now c.loop-one.one-index (omega arith) in
     omega (arith, c.loop-one.invariant.1, all)
