@@ -18,28 +18,14 @@ pub invariant_of-row : goal.invariant_of-row
 invariant_of-row g c =
     let w = c.args.row.now in
     let b = w.state.board in
-    let itself = ap (λ s. member s b) c.insert-suspects.ensures ∙ still_trusts w.state.voter.suspects.bits c.args.c b w.seated w.trusts c.requires.2 in (
-      tt,
-      (
-        w.seated,
-        (
-          w.counted,
-          (
-            w.boards,
-            (
-              w.peopled,
-              (
-                c.suspecting-voter.ensures.keeps ∙ w.keeps,
-                (
-                  w.tells,
-                  (
-                    w.proves,
-                    (ap (λ (v : Voter). member v.suspects.bits b) c.suspecting-voter.ensures.is ∙ itself, tt),
-                  ),
-                ),
-              ),
-            ),
-          ),
-        ),
-      ),
-    )
+    let itself = ap (λ s. member s b) c.insert-suspects.ensures ∙ still_trusts w.state.voter.suspects.bits c.args.c b w.seated w.trusts c.requires.2 in
+    record {
+      seated = w.seated;
+      counted = w.counted;
+      boards = w.boards;
+      peopled = w.peopled;
+      keeps = c.suspecting-voter.ensures.keeps ∙ w.keeps;
+      tells = w.tells;
+      proves = w.proves;
+      trusts = ap (λ (v : Voter). member v.suspects.bits b) c.suspecting-voter.ensures.is ∙ itself;
+    }

@@ -15,18 +15,18 @@ returns-in_err-word c =
     rw (p.1, p.2)
     (wrong_words c.args.text.now c.in-Some.rest.now c.in-Some-named.verb _ text c.in-Some-named.ensures c.in-Some.ensures c.in_err-word.ensures)
 
-pub returns-in_err-digits : goal.returns-in_err-digits
-returns-in_err-digits c =
+pub returns-in_err-digits-in-Read : goal.returns-in_err-digits-in-Read
+returns-in_err-digits-in-Read c =
     let text : Whole plain c.args.text.now = search rules in
-    let p = err_from_is_err_and c.from_residual-in_err-digits.result c.from_residual-in_err-digits.ensures.1 in
+    let p = err_from_is_err_and c.from_residual-in_err-digits-in-Read.result c.from_residual-in_err-digits-in-Read.ensures.1 in
     let name = c.in-Some-named.ensures ∙ ap name_of c.in-Read.is in
     let words = after_name c.args.text.now c.in-Some.rest.now ReadVerb name c.in-Some.ensures c.in_ok-word.ensures in
-    rw (p.1, p.2) (wrong_argument c.args.text.now ReadVerb _ text words c.in_err-digits.ensures)
+    rw (p.1, p.2) (wrong_argument c.args.text.now ReadVerb _ text words c.in_err-digits-in-Read.ensures)
 
-pub returns-in_err-key_digits : goal.returns-in_err-key_digits
-returns-in_err-key_digits c =
+pub returns-in_err-key_digits-in-Keys : goal.returns-in_err-key_digits-in-Keys
+returns-in_err-key_digits-in-Keys c =
     let text : Whole plain c.args.text.now = search rules in
-    let p = err_from_is_err_and c.from_residual-in_err-key_digits.result c.from_residual-in_err-key_digits.ensures.1 in
+    let p = err_from_is_err_and c.from_residual-in_err-key_digits-in-Keys.result c.from_residual-in_err-key_digits-in-Keys.ensures.1 in
     let name = c.in-Some-named.ensures ∙ ap name_of c.in-Keys.is in
     let words = after_name c.args.text.now c.in-Some.rest.now KeysVerb name c.in-Some.ensures c.in_ok-word.ensures in
-    rw (p.1, p.2) (wrong_argument c.args.text.now KeysVerb _ text words c.in_err-key_digits.ensures)
+    rw (p.1, p.2) (wrong_argument c.args.text.now KeysVerb _ text words c.in_err-key_digits-in-Keys.ensures)

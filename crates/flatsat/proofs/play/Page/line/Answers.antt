@@ -21,13 +21,13 @@ says c =
 bytes_are : (c : After-deref-in-Ok-Some-Keys) → c.deref-in-Ok-Some-Keys.result.now ≡ read_hex c.in-Ok-Some-Keys.digits.now
 bytes_are c =
     c.deref-in-Ok-Some-Keys.ensures.value
-    ∙ c.in_ok-bytes-2.ensures
+    ∙ c.in_ok-bytes-in-Ok-Some-Keys.ensures
     ∙ ap (λ x. x ++ read_hex c.in-Ok-Some-Keys.digits.now) c.new-in-Ok-Some-Keys.ensures.items
 
 pub keys-requires : goal.keys-requires
 keys-requires c = eight_keys c.in-Ok-Some-Keys.digits.now _ (says c).1.2.1 (bytes_are c)
 
-pub returns-in_ok-bytes-2 : goal.returns-in_ok-bytes-2
-returns-in_ok-bytes-2 c =
-    let before = (goal.at.returns-in_ok-bytes-2 c).After-deref-in-Ok-Some-Keys in
+pub returns-in_ok-bytes-in-Ok-Some-Keys : goal.returns-in_ok-bytes-in-Ok-Some-Keys
+returns-in_ok-bytes-in-Ok-Some-Keys c =
+    let before = (goal.at.returns-in_ok-bytes-in-Ok-Some-Keys c).After-deref-in-Ok-Some-Keys in
     keys_played (body c.args.line.now) (state_of c.args.self) c.kept.result c.told-in-Ok-Some-Keys.result c.in-Ok-Some-Keys.digits (says before) c.kept.ensures c.keys.ensures (bytes_are before) c.told-in-Ok-Some-Keys.ensures
