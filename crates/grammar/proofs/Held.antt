@@ -1,7 +1,7 @@
 -- What may stand, read off item by item: the facts that `After` holds, as a product that computes at given items.
 -- `held` takes them out and `stand` puts them together; `first_num` and `first_raw` say what items that stand whole begin with.
 use Rattle.std.proofs.Common.{◌≡◌, ℕ, ◌^◌, ◌<◌, Bool, true, false, List, [], ◌∷◌, ◌++◌, length, sym, refl, subst, arith}
-use Rattle.std.specs.List.{AllByRecursion as All}
+use Rattle.std.specs.List.{AllByRecursion}
 use Rattle.grammar.specs.Grammar.{Grammar, Item, After}
 
 -- These items may stand first, and then h: what that asks of each.
@@ -11,7 +11,7 @@ Held Grammar.done (i ∷ is) h = ⊥
 Held (Grammar.field w ok k) (Item.num x v ∷ is) h = (x ≡ w) × (v < 2 ^ w) × (ok v ≡ true) × Held (k v) is h
 Held (Grammar.field w ok k) (Item.raw xs ∷ is) h = ⊥
 Held (Grammar.part n k) (Item.num x v ∷ is) h = ⊥
-Held (Grammar.part n k) (Item.raw xs ∷ is) h = (length xs ≡ n) × All (λ x. x < 256) xs × Held (k xs) is h
+Held (Grammar.part n k) (Item.raw xs ∷ is) h = (length xs ≡ n) × AllByRecursion (λ x. x < 256) xs × Held (k xs) is h
 
 pub held : {g : Grammar} {is : List Item} {h : Grammar} → After g is h → Held g is h
 held After.start = refl
@@ -47,7 +47,7 @@ pub record FirstRaw (n : ℕ) (k : List ℕ → Grammar) (is : List Item) : Type
   pub later : List Item
   pub split : is ≡ Item.raw bytes ∷ later
   pub long : length bytes ≡ n
-  pub fit : All (λ x. x < 256) bytes
+  pub fit : AllByRecursion (λ x. x < 256) bytes
   pub after : After (k bytes) later Grammar.done
 
 abbrev Begins : Grammar → List Item → Type 0

@@ -1,7 +1,7 @@
 -- Heads as numbers: which fields a head has, and how a grammar goes on after them.
 -- All is said for any grammar and for whatever comes after, so that a head is built field by field.
 use Rattle.std.specs.Prelude.{◌≡◌, ℕ, ◌+◌, ◌-◌, ◌<◌, ◌≤◌, Bool, true, false, List, [], ◌∷◌, ◌++◌}
-use Rattle.std.specs.List.{AllByRecursion as All}
+use Rattle.std.specs.List.{AllByRecursion}
 use Rattle.grammar.specs.Bits.{bits, bits_of}
 use Rattle.grammar.specs.Grammar.{Grammar, Item, After, spell}
 use Rattle.head.specs.declared.number.Head.{Head}
@@ -34,7 +34,7 @@ pub record Empty (a : Head) : Type 0 where
 -- The four bytes of a head: its fields, and zeros after them.
 pub record BytesOf (a : Head) (bs : List ℕ) : Type 0 where
   pub form : bits bs ≡ bits_of a.width a.number ++ bits_of (32 - a.width) 0
-  pub fit : All (λ x. x < 256) bs
+  pub fit : AllByRecursion (λ x. x < 256) bs
 
 -- The number of a head moved up to the top of 32 bits.
 abbrev pub Raised : Head → ℕ → Type 0
@@ -43,4 +43,4 @@ Raised a x = bits_of 32 x ≡ bits_of a.width a.number ++ bits_of (32 - a.width)
 -- The four bytes of a number.
 pub record Four (x : ℕ) (bs : List ℕ) : Type 0 where
   pub form : bits bs ≡ bits_of 32 x
-  pub fit : All (λ x. x < 256) bs
+  pub fit : AllByRecursion (λ x. x < 256) bs

@@ -1,7 +1,7 @@
 -- Head and middle together: nothing, a payload, a tag or replies after the head.
 -- Each middle spells its fields, and the message goes on after it.
 use Rattle.std.proofs.Common.{◌≡◌, ℕ, ◌+◌, ◌*◌, ◌/◌, ◌%◌, ◌^◌, ◌<◌, ◌≤◌, Bool, true, false, ◌&&◌, eqb, List, [], ◌∷◌, ◌++◌, length, sym, refl, ap, ◌∙◌, subst, arith, length-append, Bor}
-use Rattle.std.specs.List.{AllByRecursion as All}
+use Rattle.std.specs.List.{AllByRecursion}
 use Rattle.std.proofs.lemmas.List.{append_assoc, append-nil}
 use Rattle.std.proofs.ByRecursion.{All-append}
 use Rattle.std.proofs.lemmas.Bool.{and_parts, eqb-true, eq-eqb}
@@ -104,12 +104,12 @@ replies_bits (e ∷ es) =
     let rest : bits (e.tag ++ replies_bytes es) ≡ bits e.tag ++ spell (replies_values es) = bits_append e.tag (replies_bytes es) ∙ ap (λ l. bits e.tag ++ l) (replies_bits es) in
     (λ i. entry_bits e.entry.earlier e.entry.change i ++ rest i) ∙ simp append_assoc
 
-pub replies_fit : (es : List Reply) → All Tagged es → Bytes (replies_bytes es)
+pub replies_fit : (es : List Reply) → AllByRecursion Tagged es → Bytes (replies_bytes es)
 unfolding replies_bytes
 replies_fit [] t = tt
 replies_fit (e ∷ es) t = (omega arith, All-append _ e.tag (replies_bytes es) t.0.1 (replies_fit es t.1))
 
-pub replies_long : (es : List Reply) → All (λ e. length e.tag ≡ 8) es → length (replies_bytes es) ≡ 9 * length es
+pub replies_long : (es : List Reply) → AllByRecursion (λ e. length e.tag ≡ 8) es → length (replies_bytes es) ≡ 9 * length es
 unfolding replies_bytes
 replies_long [] t = refl
 replies_long (e ∷ es) t = simp length-append (omega (arith, t.0, replies_long es t.1))

@@ -1,7 +1,7 @@
 -- How many bytes a formed message has, kind by kind; none has more than 140.
 -- From this follow tighter bounds where sets are known to be smaller.
 use Rattle.std.proofs.Common.{◌≡◌, ℕ, zero, suc, ◌+◌, ◌*◌, ◌/◌, ◌<◌, ◌≤◌, Bool, List, [], ◌∷◌, ◌++◌, length, sym, refl, ap, ◌∙◌, subst, arith, length-append}
-use Rattle.std.specs.List.{AllByRecursion as All}
+use Rattle.std.specs.List.{AllByRecursion}
 use Rattle.boards.specs.Boards.{size}
 use Rattle.boards.proofs.Sets.{size_le}
 use Rattle.grammar.specs.Bits.{bits, bits_of}
@@ -47,7 +47,7 @@ packed_long : (is : List Item) (n : ℕ) → weight is ≡ 8 * n → length (pac
 unfolding packed
 packed_long is n e = length_bytes_of (length (spell is) / 8) (spell is) ∙ omega (arith, spell_long is, e)
 
-weight_replies : (es : List Reply) (js : List Item) → All Tagged es → weight (replies_values es ++ js) ≡ 72 * length es + weight js
+weight_replies : (es : List Reply) (js : List Item) → AllByRecursion Tagged es → weight (replies_values es ++ js) ≡ 72 * length es + weight js
 unfolding replies_values
 weight_replies [] js t = omega arith
 weight_replies (e ∷ es) js t = omega (arith, t.0.0, weight_replies es js t.1)

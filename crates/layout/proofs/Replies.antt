@@ -1,7 +1,7 @@
 -- Replies by rising board number: they are what is heard or stored, and stand one after another.
 -- Board by board they may stand, or one of them, or their number, may not.
 use Rattle.std.proofs.Common.{◌≡◌, ℕ, zero, suc, ◌+◌, ◌-◌, ◌*◌, ◌/◌, ◌^◌, ◌<◌, ◌≤◌, max, Bool, true, false, cond, ◌&&◌, eqb, leb, ◌⊎◌, List, [], ◌∷◌, ◌++◌, length, get_or, take, drop, None, sym, refl, ap, ◌∙◌, subst, inl, inr, ⊎_elim, add-zero, add-one, arith, length-append}
-use Rattle.std.specs.List.{AllByRecursion as All}
+use Rattle.std.specs.List.{AllByRecursion}
 use Rattle.std.proofs.lemmas.List.{append_assoc, append-nil, length-take-le, length-take, length-drop}
 use Rattle.std.proofs.ByRecursion.{All-append, All-push, All-take, All-drop}
 use Rattle.std.proofs.lemmas.Bool.{and_parts, and_from, leb-true, cond_both, cases_eq, cases_Bool, eq-eqb, eqb-true}
@@ -27,7 +27,7 @@ unfolding listed tally
 listed_long P f zero = refl
 listed_long P f (suc n) = one_more (P n) (listed P f n) (f n) (tally P n) (listed_long P f n)
 
-all_last : {X : Type 0} (P : X → Type 0) (xs : List X) (x : X) → All P (xs ++ x ∷ []) → P x
+all_last : {X : Type 0} (P : X → Type 0) (xs : List X) (x : X) → AllByRecursion P (xs ++ x ∷ []) → P x
 all_last P [] x a = a.0
 all_last P (y ∷ xs) x a = all_last P xs x a.1
 
@@ -108,7 +108,7 @@ next {s} {es} {b} {top} g m p t =
           subst (λ l. After (entries (size s) 0 k) (replies_values l) (entries (size s - place s (b + 1)) (max top e.entry.earlier) k)) more
           (subst (λ l. After (entries (size s) 0 k) l (entries (size s - place s (b + 1)) (max top e.entry.earlier) k)) (sym (values_append is (e ∷ [])))
           (join (subst (λ n. After (entries (size s) 0 k) (replies_values is) (entries n top k)) left (g.goes k)) (one_reply e p t _)));
-      tags = subst (All Tagged) more (All-push Tagged is e g.tags t);
+      tags = subst (AllByRecursion Tagged) more (All-push Tagged is e g.tags t);
     }
 
 pub skip : {s : ℕ} {es : Entries} {b top : ℕ} → Going s es b top → member s b ≡ false → Going s es (b + 1) top
@@ -118,7 +118,7 @@ skip {s} {es} {b} {top} g m =
     record {
       goes = λ k. let P : List Reply → ℕ → Type 0 = λ l n. After (entries (size s) 0 k) (replies_values l) (entries (size s - n) top k) in
           subst (λ n. P (listed (member s) (reply_of s es) (b + 1)) n) here (subst (λ l. P l (place s b)) same (g.goes k));
-      tags = subst (All Tagged) same g.tags;
+      tags = subst (AllByRecursion Tagged) same g.tags;
     }
 
 pub evens : (s : ℕ) (es : Entries) (r : Bool) → Evened s es r → r ≡ true → Even s es
@@ -142,12 +142,12 @@ pub tag_of_even : (s : ℕ) (es : Entries) (b : ℕ) (r : Bool) → Evened s es 
 tag_of_even s es b r v e m = (tag_long s es b (evens s es r v e) m, tag_bytes_fit s es b r v)
 
 -- what holds of each board's is so of all that are listed
-pub all_listed : {X : Type 0} (Q : X → Type 0) (P : ℕ → Bool) (f : ℕ → X) → ((b : ℕ) → P b ≡ true → Q (f b)) → (n : ℕ) → All Q (listed P f n)
+pub all_listed : {X : Type 0} (Q : X → Type 0) (P : ℕ → Bool) (f : ℕ → X) → ((b : ℕ) → P b ≡ true → Q (f b)) → (n : ℕ) → AllByRecursion Q (listed P f n)
 unfolding listed
 all_listed Q P f h zero = tt
 all_listed Q P f h (suc n) =
-    ⊎_elim (λ e. subst (All Q) (sym (listed_in P f n e)) (All-push Q (listed P f n) (f n) (all_listed Q P f h n) (h n e)))
-    (λ e. subst (All Q) (sym (listed_out P f n e)) (all_listed Q P f h n)) (cases_Bool (P n))
+    ⊎_elim (λ e. subst (AllByRecursion Q) (sym (listed_in P f n e)) (All-push Q (listed P f n) (f n) (all_listed Q P f h n) (h n e)))
+    (λ e. subst (AllByRecursion Q) (sym (listed_out P f n e)) (all_listed Q P f h n)) (cases_Bool (P n))
 
 -- a board without a reply is not of the set
 pub absent : (s : ℕ) (es : Entries) (b : ℕ) → Even s es → Replied s es b None → member s b ≡ false
@@ -161,7 +161,7 @@ finish {s} {es} {top} h g =
     record {
       goes = λ k. let P : List Reply → ℕ → Type 0 = λ l n. After (entries (size s) 0 k) (replies_values l) (entries n top k) in
           subst (λ n. P (replies_of s es) n) none (subst (λ l. P l (size s - place s 8)) all (g.goes k));
-      tags = subst (All Tagged) all g.tags;
+      tags = subst (AllByRecursion Tagged) all g.tags;
       even = h;
     }
 
@@ -181,7 +181,7 @@ improper {s} {es} {b} {top} h g l m e = λ p a after.
     clash (reply_tells rest).0 e
 
 -- replies before a proof are as many as there are boards, each with its tag
-pub counted : (n top : ℕ) (es : List Reply) (p : ℕ) (a : List ℕ) {l : Grammar} → After (entries n top (λ t. proof t Grammar.done)) (replies_values es ++ set_values p a) l → (length es ≡ n) × All Tagged es × (length a ≡ 8 * size p)
+pub counted : (n top : ℕ) (es : List Reply) (p : ℕ) (a : List ℕ) {l : Grammar} → After (entries n top (λ t. proof t Grammar.done)) (replies_values es ++ set_values p a) l → (length es ≡ n) × AllByRecursion Tagged es × (length a ≡ 8 * size p)
 unfolding entries replies_values
 counted zero top [] p a x = (refl, tt, (un_raw (un_num x).2).0)
 counted zero top (e ∷ es) p a x = absurd (omega (arith, un_wide x))
@@ -196,7 +196,7 @@ unfolding replies_in
 in_long zero xs = refl
 in_long (suc n) xs = length-append (replies_in n xs) _ ∙ omega (arith, in_long n xs)
 
-last_whole : (n : ℕ) (xs : List ℕ) → All Tagged (replies_in n xs) → 9 * n ≤ length xs
+last_whole : (n : ℕ) (xs : List ℕ) → AllByRecursion Tagged (replies_in n xs) → 9 * n ≤ length xs
 unfolding replies_in
 last_whole zero xs t = omega arith
 last_whole (suc n) xs t =

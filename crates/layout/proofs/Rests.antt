@@ -1,7 +1,7 @@
 -- What may stand first in a grammar, in two parts: cut and joined.
 -- Each step of a message, read off what may stand, or added to it, allowed or not.
 use Rattle.std.proofs.Common.{◌≡◌, ℕ, ◌^◌, ◌<◌, Bool, true, false, ◌&&◌, ltb, ◌⊎◌, List, [], ◌∷◌, ◌++◌, length, sym, refl, ap, ◌∙◌, subst, inl, inr, arith}
-use Rattle.std.specs.List.{AllByRecursion as All}
+use Rattle.std.specs.List.{AllByRecursion}
 use Rattle.std.proofs.lemmas.Bool.{both_ways, ltb-true, lt-ltb}
 use Rattle.grammar.specs.Grammar.{Grammar, Item, After}
 use Rattle.layout.specs.Heads.{Goes}
@@ -13,7 +13,7 @@ Told Grammar.done (i ∷ is) h = ⊥
 Told (Grammar.field w ok k) (Item.num u v ∷ is) h = (v < 2 ^ w) × (ok v ≡ true) × After (k v) is h × (u ≡ w)
 Told (Grammar.field w ok k) (Item.raw xs ∷ is) h = ⊥
 Told (Grammar.part n k) (Item.num u v ∷ is) h = ⊥
-Told (Grammar.part n k) (Item.raw xs ∷ is) h = (length xs ≡ n) × All (λ x. x < 256) xs × After (k xs) is h
+Told (Grammar.part n k) (Item.raw xs ∷ is) h = (length xs ≡ n) × AllByRecursion (λ x. x < 256) xs × After (k xs) is h
 
 told : {g : Grammar} {is : List Item} {h : Grammar} → After g is h → Told g is h
 told After.start = tt
@@ -26,7 +26,7 @@ un_num a = let r = told a in (r.0, r.1, r.2)
 pub un_wide : {w u v : ℕ} {ok : ℕ → Bool} {k : ℕ → Grammar} {is : List Item} {h : Grammar} → After (Grammar.field w ok k) (Item.num u v ∷ is) h → u ≡ w
 un_wide a = (told a).3
 
-pub un_raw : {n : ℕ} {xs : List ℕ} {k : List ℕ → Grammar} {is : List Item} {h : Grammar} → After (Grammar.part n k) (Item.raw xs ∷ is) h → (length xs ≡ n) × All (λ x. x < 256) xs × After (k xs) is h
+pub un_raw : {n : ℕ} {xs : List ℕ} {k : List ℕ → Grammar} {is : List Item} {h : Grammar} → After (Grammar.part n k) (Item.raw xs ∷ is) h → (length xs ≡ n) × AllByRecursion (λ x. x < 256) xs × After (k xs) is h
 un_raw a = told a
 
 pub join : {g h l : Grammar} {is js : List Item} → After g is h → After h js l → After g (is ++ js) l

@@ -1,7 +1,7 @@
 -- What is tested of tags and entries before they are written.
 -- Both are measured against the set that they stand beside.
 use Rattle.std.specs.Prelude.{◌≡◌, ℕ, ◌+◌, ◌-◌, ◌*◌, ◌<◌, Bool, true, cond, ◌&&◌, List, ◌++◌, length, Some, None, Option, ◌==◌, slice_index, slice_index_or}
-use Rattle.std.specs.List.{AllByRecursion as All}
+use Rattle.std.specs.List.{AllByRecursion}
 use Rattle.boards.specs.declared.Set.{Set}
 use Rattle.boards.specs.Boards.{size, member, place}
 use Rattle.grammar.specs.Grammar.{Grammar, Item, After, from_to}
@@ -15,7 +15,7 @@ use Rattle.wire.specs.Format.{replies_values, set_values}
 
 -- Numbers that are bytes.
 abbrev pub Bytes : List ℕ → Type 0
-Bytes xs = All (λ x. x < 256) xs
+Bytes xs = AllByRecursion (λ x. x < 256) xs
 
 -- Whether the tags are eight bytes for each board of the set.
 pub record Measured (s : Set) (t : Tags) (r : Bool) : Type 0 where
@@ -62,12 +62,12 @@ Tagged e = (length e.tag ≡ 8) × Bytes e.tag
 -- The replies of the boards below b are allowed, and the highest earlier rank among them is top.
 pub record Going (s : ℕ) (es : Entries) (b top : ℕ) : Type 0 where
   pub goes : (k : ℕ → Grammar) → After (entries (size s) 0 k) (replies_values (listed (member s) (reply_of s es) b)) (entries (size s - place s b) top k)
-  pub tags : All Tagged (listed (member s) (reply_of s es) b)
+  pub tags : AllByRecursion Tagged (listed (member s) (reply_of s es) b)
 
 -- All the replies are allowed, and the highest earlier rank among them is top.
 pub record Gathers (s : ℕ) (es : Entries) (top : ℕ) : Type 0 where
   pub goes : (k : ℕ → Grammar) → After (entries (size s) 0 k) (replies_values (replies_of s es)) (k top)
-  pub tags : All Tagged (replies_of s es)
+  pub tags : AllByRecursion Tagged (replies_of s es)
   pub even : Even s es
 
 -- The highest earlier rank, or that the replies may not stand before a proof.

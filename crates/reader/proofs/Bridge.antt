@@ -2,7 +2,7 @@
 -- Laws used: grammar's Bits and Steps.
 use Rattle.std.proofs.Common.{◌≡◌, ℕ, zero, suc, ◌+◌, ◌-◌, ◌*◌, ◌/◌, ◌%◌, ◌^◌, ◌<◌, ◌≤◌, Bool, true, false, ◌⊎◌, List, [], ◌∷◌, ◌++◌, length, get_or, take, drop, Ok, Err, Result, sym, refl, ap, ◌∙◌, subst, inl, inr, ⊎_elim, add-zero, add_assoc, zero-add, arith, length-append, length-drop, take-append-drop, drop_of_length-le, length-take-le, get_or-drop, drop-drop, take_at, drop_at, Bor}
 use lib.Seq.{take-append-le, drop-append-le, drop-nil, drop-append-add}
-use Rattle.std.specs.List.{AllByRecursion as All}
+use Rattle.std.specs.List.{AllByRecursion}
 use Rattle.std.proofs.lemmas.List.{append_assoc, append-nil}
 use Rattle.grammar.specs.declared.fault.Layer.TheVariants.{Bytes, Field}
 use Rattle.grammar.specs.declared.fault.Fault.{Fault}
@@ -93,16 +93,16 @@ none_left s w ok o h k =
     let q : (at s + length (drop (at s) (bits (src s)))) / 8 ≡ length (src s) = omega (arith, l, s.small, s.inside) in
     field_short w ok k _ (at s) (omega (arith, l)) ∙ ap (λ n. Err (fault Bytes n)) q
 
-pub all_below : (xs : List ℕ) → ((i : ℕ) → get_or xs i 0 < 256) → All (λ x. x < 256) xs
+pub all_below : (xs : List ℕ) → ((i : ℕ) → get_or xs i 0 < 256) → AllByRecursion (λ x. x < 256) xs
 all_below [] h = tt
 all_below (x ∷ xs) h = (h 0, all_below xs (λ i. h (suc i)))
 
-all_drop : (n : ℕ) (xs : List ℕ) → All (λ x. x < 256) xs → All (λ x. x < 256) (drop n xs)
+all_drop : (n : ℕ) (xs : List ℕ) → AllByRecursion (λ x. x < 256) xs → AllByRecursion (λ x. x < 256) (drop n xs)
 all_drop zero xs a = a
 all_drop (suc n) [] a = tt
 all_drop (suc n) (x ∷ xs) a = all_drop n xs a.1
 
-all_take : (n : ℕ) (xs : List ℕ) → All (λ x. x < 256) xs → All (λ x. x < 256) (take n xs)
+all_take : (n : ℕ) (xs : List ℕ) → AllByRecursion (λ x. x < 256) xs → AllByRecursion (λ x. x < 256) (take n xs)
 all_take zero xs a = tt
 all_take (suc n) [] a = tt
 all_take (suc n) (x ∷ xs) a = (a.0, all_take n xs a.1)

@@ -1,7 +1,7 @@
 -- Reading hexadecimal: two digits a byte, in either case.
 -- It undoes writing.
 use Rattle.std.specs.Prelude.{◌≡◌, ℕ, ◌+◌, ◌-◌, ◌*◌, ◌%◌, ◌<◌, cond, ◌&&◌, List, [], ◌∷◌, length, nat_le}
-use Rattle.std.specs.List.{AllByRecursion as All}
+use Rattle.std.specs.List.{AllByRecursion}
 use Rattle.script.specs.Texts.{hex}
 use Rattle.script.specs.Words.{Whole, hex_sign}
 
@@ -23,4 +23,4 @@ pub record Hexadecimal (ds : List ℕ) : Type 0 where
 
 -- Bytes that were written are read again.
 abbrev pub Undone : Type 0
-Undone = (bs : List ℕ) → All (λ b. b < 256) bs → Hexadecimal (hex bs) × (read_hex (hex bs) ≡ bs)
+Undone = (bs : List ℕ) → AllByRecursion (λ b. b < 256) bs → Hexadecimal (hex bs) × (read_hex (hex bs) ≡ bs)

@@ -2,7 +2,7 @@
 -- Every fact about its states is a computation.
 use Rattle.std.proofs.Common.{◌≡◌, ℕ, zero, suc, ◌*◌, ◌<◌, true, false, not, ltb, List, [], ◌∷◌, length, set, replicate, Some, None, Ok, sym, refl, ap, ◌∙◌, subst, inl, ⊎_elim, arith}
 use lib.Bits.{bit_and}
-use Rattle.std.specs.List.{AllByRecursion as All}
+use Rattle.std.specs.List.{AllByRecursion}
 use Rattle.std.proofs.lemmas.Bool.{and_from, and_parts, and_left, or_left, or_right, not_from_true, not_from_false, cond-false, eqb-true, lt-ltb, le-leb, cases_Bool, both_ways}
 use Rattle.boards.specs.Boards.{member, only, size, tally}
 use Rattle.boards.proofs.Members.{member_and, member_none, member_below, member_only}
@@ -93,7 +93,7 @@ the_proposal = Msg.proposal 1 1 1 0x80 tags
 abbrev the_change : Msg
 the_change = Msg.change 1 1 1 0x80 tags
 
-zeros_fit : (n : ℕ) → All (λ x. x < 256) (replicate n 0)
+zeros_fit : (n : ℕ) → AllByRecursion (λ x. x < 256) (replicate n 0)
 zeros_fit zero = tt
 zeros_fit (suc n) = (omega arith, zeros_fit n)
 

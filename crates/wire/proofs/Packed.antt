@@ -1,20 +1,20 @@
 -- Bits packed into bytes, and bytes known by their bits.
 -- Whole bytes that spell items are the packed items, and items of whole bytes are spelt by them.
 use Rattle.std.proofs.Common.{◌≡◌, ℕ, ◌+◌, ◌*◌, ◌/◌, ◌%◌, ◌<◌, ◌≤◌, List, [], ◌∷◌, ◌++◌, length, take, sym, refl, ap, ◌∙◌, subst, arith, take_all}
-use Rattle.std.specs.List.{AllByRecursion as All}
+use Rattle.std.specs.List.{AllByRecursion}
 use Rattle.std.proofs.lemmas.List.{append-nil}
 use Rattle.grammar.specs.Bits.{bits, bytes_of}
 use Rattle.grammar.specs.Grammar.{Item, spell}
 use Rattle.grammar.proofs.Bits.{length_bits, bytes_bits, bits_bytes, length_bytes_of, bytes_fit}
 use Rattle.wire.specs.Format.{packed}
 
-pub packed_is : (bs : List ℕ) (is : List Item) → All (λ x. x < 256) bs → bits bs ≡ spell is → bs ≡ packed is
+pub packed_is : (bs : List ℕ) (is : List Item) → AllByRecursion (λ x. x < 256) bs → bits bs ≡ spell is → bs ≡ packed is
 unfolding packed
 packed_is bs is a e =
     let n : length (spell is) / 8 ≡ length bs = omega (arith, ap length (sym e), length_bits bs) in
     sym ((λ i. bytes_of (n i) (sym e i)) ∙ ap (bytes_of (length bs)) (sym (append-nil (bits bs))) ∙ bytes_bits bs [] a)
 
-pub packed_fit : (is : List Item) → All (λ x. x < 256) (packed is)
+pub packed_fit : (is : List Item) → AllByRecursion (λ x. x < 256) (packed is)
 unfolding packed
 packed_fit is = bytes_fit (length (spell is) / 8) (spell is) (omega arith)
 

@@ -1,7 +1,7 @@
 -- What a formed message signs is allowed: the act behind each board's tag, and the act behind its proof.
 -- The words of an allowed act have 2 to 52 bytes.
 use Rattle.std.proofs.Common.{◌≡◌, ℕ, zero, suc, ◌+◌, ◌*◌, ◌/◌, ◌^◌, ◌<◌, ◌≤◌, max, Bool, true, false, cond, eqb, ltb, leb, ◌⊎◌, List, [], ◌∷◌, ◌++◌, length, get_or, sym, refl, ap, ◌∙◌, subst, inl, inr, ⊎_elim, arith}
-use Rattle.std.specs.List.{AllByRecursion as All}
+use Rattle.std.specs.List.{AllByRecursion}
 use Rattle.std.proofs.ByRecursion.{All-get_or}
 use Rattle.std.proofs.lemmas.Bool.{and_parts, and_from, leb-true, le-leb, eqb-true, eqb-false, ne_eqb, cond_both, cond-false, cases_lt, both_ways}
 use Rattle.grammar.specs.Grammar.{Grammar, Item, After, from_to}
@@ -43,8 +43,8 @@ highest top (e ∷ es) = highest (max top e.entry.earlier) es
 -- As many replies as are asked for, each with an entry that is allowed and a tag of eight bytes, and then a proof for the highest earlier rank.
 pub record Answered (k top : ℕ) (es : List Reply) (p : ℕ) (a : List ℕ) : Type 0 where
   pub many : length es ≡ k
-  pub each : All (λ e. EntryAllowed e.entry) es
-  pub tagged : All (λ e. length e.tag ≡ 8) es
+  pub each : AllByRecursion (λ e. EntryAllowed e.entry) es
+  pub tagged : AllByRecursion (λ e. length e.tag ≡ 8) es
   pub after : Held (proof (highest top es) Grammar.done) (set_values p a) Grammar.done
 
 pub answered : (k top : ℕ) (es : List Reply) (p : ℕ) (a : List ℕ) → Held (entries k top (λ t. proof t Grammar.done)) (replies_values es ++ set_values p a) Grammar.done → Answered k top es p a
@@ -112,7 +112,7 @@ lower_by P a b p q =
     cond_both (eqb y 0) a (cond (eqb x 0) b (cond (ltb y x) b a)) P (λ e. p (inl (eqb-true y 0 e)))
     (λ e. cond_both (eqb x 0) b (cond (ltb y x) b a) P (λ _. q (not_zero y e)) (λ f. cond_both (ltb y x) b a P (λ _. q (not_zero y e)) (λ _. p (inr (not_zero x f)))))
 
-lowest_allowed : (es : List Reply) → All (λ e. EntryAllowed e.entry) es → EntryAllowed (lowest es)
+lowest_allowed : (es : List Reply) → AllByRecursion (λ e. EntryAllowed e.entry) es → EntryAllowed (lowest es)
 unfolding lowest
 lowest_allowed [] h = none_allowed
 lowest_allowed (e ∷ es) h = lower_by EntryAllowed e.entry (lowest es) (λ _. h.0) (λ _. lowest_allowed es h.1)

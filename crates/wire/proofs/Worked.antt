@@ -1,7 +1,7 @@
 -- The examples: what they say of given bytes is computed, and what they say of any payload or message follows from the laws.
 -- A fault of given bytes is the outcome of the grammar, which computes.
 use Rattle.std.proofs.Common.{◌≡◌, ℕ, ◌+◌, ◌*◌, ◌/◌, ◌<◌, List, [], ◌∷◌, ◌++◌, length, Ok, Err, sym, refl, ap, ◌∙◌, subst, arith}
-use Rattle.std.specs.List.{AllByRecursion as All}
+use Rattle.std.specs.List.{AllByRecursion}
 use Rattle.std.proofs.lemmas.List.{append-nil}
 use Rattle.boards.specs.Boards.{member, only, size, tally}
 use Rattle.grammar.specs.declared.fault.Layer.TheVariants.{Bytes, Field}

@@ -1,7 +1,7 @@
 -- What bytes are: the one formed message whose bytes they are, or the first fault.
 -- This is what a reader of bytes answers, and there is only one answer to any bytes.
 use Rattle.std.specs.Prelude.{◌≡◌, ℕ, ◌<◌, List, Ok, Err, Result}
-use Rattle.std.specs.List.{AllByRecursion as All}
+use Rattle.std.specs.List.{AllByRecursion}
 use Rattle.grammar.specs.declared.fault.Fault.{Fault}
 use Rattle.grammar.specs.Bits.{bits}
 use Rattle.grammar.specs.Grammar.{First}
@@ -10,7 +10,7 @@ use Rattle.wire.specs.Format.{message, Formed, form}
 
 -- Numbers that are bytes.
 abbrev pub ByteList : List ℕ → Type 0
-ByteList bs = All (λ x. x < 256) bs
+ByteList bs = AllByRecursion (λ x. x < 256) bs
 
 -- Bytes read as a message are the bytes of that formed message; bytes that are none have a first fault.
 abbrev pub Reads : List ℕ → Result Msg Fault → Type 0
