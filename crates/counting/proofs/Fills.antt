@@ -1,6 +1,6 @@
 -- A full count and one that is not, and certificates by another name of what they are made of.
 -- One law for all kinds that are counted.
-use Rattle.std.proofs.Common.{◌≡◌, ℕ, Bool, true, false, cond, List, sym, refl, ap, ◌∙◌, subst}
+use Rattle.std.proofs.Common.{◌≡◌, ℕ, Bool, true, false, cond, List, sym, subst}
 use Rattle.std.proofs.lemmas.Bool.{cond-true, cond-false}
 use Rattle.wire.specs.Messages.{Msg}
 use Rattle.row.specs.declared.state.State.{State}

@@ -1,6 +1,6 @@
 -- What a row does that counts a lone message: the next state, and what goes out; nothing is signed.
 -- The whole of each kind is `heard` of crate row.
-use Rattle.std.specs.Prelude.{◌≡◌, ℕ, ◌+◌, ◌<◌, Bool, true, false, cond, List, [], length, None, ◌==◌}
+use Rattle.std.specs.Prelude.{◌≡◌, ℕ, ◌+◌, ◌<◌, Bool, true, false, List, [], length, None, ◌==◌}
 use Rattle.wire.specs.declared.message.Entry.{Entry}
 use Rattle.row.specs.declared.state.Count.{Count}
 use Rattle.row.specs.declared.state.Leader.{Leader}

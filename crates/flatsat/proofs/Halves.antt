@@ -1,6 +1,6 @@
 -- Digits stand for half as many bytes.
 -- So the digits of eight keys are those of 128 bytes.
-use Rattle.std.proofs.Common.{◌≡◌, ℕ, ◌+◌, ◌*◌, ◌/◌, ◌<◌, ◌≤◌, List, [], ◌∷◌, length, refl, ap, arith}
+use Rattle.std.proofs.Common.{◌≡◌, ℕ, ◌+◌, ◌*◌, ◌≤◌, List, [], ◌∷◌, length, ap, arith}
 use Rattle.script.specs.Hex.{read_hex}
 
 halved : (ds : List ℕ) → (2 * length (read_hex ds) ≤ length ds) × (length ds ≤ 2 * length (read_hex ds) + 1)

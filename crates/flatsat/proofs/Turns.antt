@@ -1,6 +1,6 @@
 -- One line of a script after another: what is played so far goes on with what is left.
 -- Each line that is played takes a byte of the script at least, and counts one call at most.
-use Rattle.std.proofs.Common.{◌≡◌, ℕ, zero, suc, ◌+◌, ◌<◌, ◌≤◌, Bool, true, false, not, eqb, ◌⊎◌, List, [], ◌∷◌, ◌++◌, length, drop, IfOk, Some, Ok, Err, Result, sym, refl, ap, ◌∙◌, subst, inr, ⊎_elim, true≢false, arith, Bor, rules}
+use Rattle.std.proofs.Common.{◌≡◌, ℕ, zero, suc, ◌+◌, ◌<◌, ◌≤◌, true, false, not, eqb, List, [], ◌∷◌, length, drop, IfOk, Some, Ok, Err, Result, sym, refl, ap, ◌∙◌, subst, inr, ⊎_elim, true≢false, arith, Bor, rules}
 use Rattle.std.proofs.lemmas.List.{length-drop}
 use Rattle.script.specs.declared.answer.Answer.{Answer}
 use Rattle.script.specs.declared.answer.Answer.TheVariants.{Heard, Audited, Kept, Refused, Wrong}

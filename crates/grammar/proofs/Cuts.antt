@@ -1,14 +1,13 @@
 -- What stands, cut short or added to: the laws Cut, Over, OverOrShort and FieldFault.
 -- A fault found behind items that may stand is a fault of the whole (`behind`); the rest goes by cases on what was to come next.
-use Rattle.std.proofs.Common.{◌≡◌, ℕ, ◌+◌, ◌-◌, ◌*◌, ◌/◌, ◌^◌, ◌<◌, ◌≤◌, Bool, true, false, ◌⊎◌, List, [], ◌∷◌, ◌++◌, length, take, drop, sym, refl, ap, ◌∙◌, subst, inl, inr, ⊎_elim, add-zero, arith, length-append, length-take-le}
-use lib.Seq.{take-append-le, take-append-add}
+use Rattle.std.proofs.Common.{◌≡◌, ℕ, ◌+◌, ◌-◌, ◌/◌, ◌<◌, ◌≤◌, Bool, List, [], ◌∷◌, ◌++◌, length, take, sym, refl, ap, ◌∙◌, subst, inl, inr, ⊎_elim, arith, length-append, length-take-le}
+use lib.Seq.{take-append-add}
 use Rattle.std.proofs.lemmas.List.{append_assoc, append-nil}
 use Rattle.std.proofs.lemmas.Bool.{cases_lt}
-use Rattle.grammar.specs.declared.fault.Layer.{Layer}
 use Rattle.grammar.specs.declared.fault.Layer.TheVariants.{Bytes, Field}
 use Rattle.grammar.specs.declared.fault.Fault.{Fault}
-use Rattle.grammar.specs.Bits.{bits_of, number_of, bits}
-use Rattle.grammar.specs.Grammar.{Grammar, Item, After, Stands, Breaks, First, NotAllowed, Left, fault, spell, written}
+use Rattle.grammar.specs.Bits.{bits_of, bits}
+use Rattle.grammar.specs.Grammar.{Grammar, Item, After, Breaks, First, NotAllowed, Left, fault, spell, written}
 use Rattle.grammar.specs.Laws.{Cut, Over, OverOrShort, FieldFault}
 use Rattle.grammar.proofs.Bits.{length_bits_of, length_bits}
 use Rattle.grammar.proofs.Held.{onward}

@@ -1,6 +1,6 @@
 -- What may stand, read off item by item: the facts that `After` holds, as a product that computes at given items.
 -- `held` takes them out and `stand` puts them together; `first_num` and `first_raw` say what items that stand whole begin with.
-use Rattle.std.proofs.Common.{◌≡◌, ℕ, ◌^◌, ◌<◌, Bool, true, false, List, [], ◌∷◌, ◌++◌, length, sym, refl, subst, arith}
+use Rattle.std.proofs.Common.{◌≡◌, ℕ, ◌^◌, ◌<◌, Bool, true, List, [], ◌∷◌, ◌++◌, length, sym, refl, subst, arith}
 use Rattle.std.specs.List.{AllByRecursion}
 use Rattle.grammar.specs.Grammar.{Grammar, Item, After}
 

@@ -1,11 +1,11 @@
 -- Fields side by side in one number: its bits are those of the fields, one after another.
 -- Only the low bits of a value count, so that no value has to be ruled out before it is put beside the others.
-use Rattle.std.proofs.Common.{◌≡◌, ℕ, ◌+◌, ◌-◌, ◌*◌, ◌/◌, ◌%◌, ◌^◌, ◌<◌, ◌≤◌, Bool, true, false, ◌&&◌, ltb, List, [], ◌∷◌, ◌++◌, sym, refl, ap, ◌∙◌, subst, add_comm, arith}
+use Rattle.std.proofs.Common.{◌≡◌, ℕ, ◌+◌, ◌*◌, ◌/◌, ◌%◌, ◌^◌, ◌<◌, Bool, true, false, ◌&&◌, ltb, List, [], ◌∷◌, ◌++◌, sym, refl, ap, ◌∙◌, subst, add_comm, arith}
 use Rattle.std.proofs.lemmas.List.{append-nil}
 use Rattle.std.proofs.lemmas.Nat.{shr_high, mod_low, mod_below, pow-add, pow_pos, mul-add-lt, shl-shr}
 use Rattle.std.proofs.lemmas.Bool.{both_ways, ltb-true, lt-ltb}
 use Rattle.grammar.specs.Bits.{bits_of, bits}
-use Rattle.grammar.specs.Grammar.{Grammar, Item, After, spell, written}
+use Rattle.grammar.specs.Grammar.{Grammar, Item, After, spell}
 use Rattle.grammar.proofs.Bits.{parts, low}
 use Rattle.grammar.proofs.Cuts.{spell_append}
 use Rattle.grammar.proofs.Held.{held, onward, rest_after, front_after}

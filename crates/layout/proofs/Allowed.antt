@@ -1,13 +1,13 @@
 -- What fields that may stand first tell of their values.
 -- A payload after its head, and a message known by its kind.
-use Rattle.std.proofs.Common.{◌≡◌, ℕ, ◌*◌, ◌%◌, ◌<◌, ◌≤◌, Bool, true, false, ltb, List, [], ◌∷◌, ◌++◌, length, Option, sym, refl, ap, ◌∙◌, subst, ⊎_elim, arith}
+use Rattle.std.proofs.Common.{◌≡◌, ℕ, ◌<◌, true, ltb, List, [], ◌∷◌, Option, sym, refl, ◌∙◌, subst, ⊎_elim, arith}
 use Rattle.std.proofs.lemmas.Bool.{cases_lt, lt-ltb, le-ltb, eqb-true}
 use Rattle.boards.specs.Boards.{size, only}
 use Rattle.grammar.specs.Grammar.{Grammar, Item, After}
 use Rattle.wire.specs.declared.message.Content.{Content}
 use Rattle.wire.specs.declared.message.Message.{Message}
-use Rattle.wire.specs.Fields.{view, lone, carried}
-use Rattle.wire.specs.Messages.{meaning, sort_number}
+use Rattle.wire.specs.Fields.{lone, carried}
+use Rattle.wire.specs.Messages.{meaning}
 use Rattle.wire.specs.Format.{message, body, opening, content_values}
 use Rattle.layout.specs.declared.plan.Head.{Head}
 use Rattle.layout.specs.declared.plan.Layout.{Layout}

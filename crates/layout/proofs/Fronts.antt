@@ -1,11 +1,10 @@
 -- Head and middle together: nothing, a payload, a tag or replies after the head.
 -- Each middle spells its fields, and the message goes on after it.
-use Rattle.std.proofs.Common.{◌≡◌, ℕ, ◌+◌, ◌*◌, ◌/◌, ◌%◌, ◌^◌, ◌<◌, ◌≤◌, Bool, true, false, ◌&&◌, eqb, List, [], ◌∷◌, ◌++◌, length, sym, refl, ap, ◌∙◌, subst, arith, length-append, Bor}
+use Rattle.std.proofs.Common.{◌≡◌, ℕ, ◌+◌, ◌*◌, ◌%◌, ◌^◌, ◌<◌, ◌≤◌, Bool, true, false, ◌&&◌, eqb, List, [], ◌∷◌, ◌++◌, length, sym, refl, ap, ◌∙◌, subst, arith, length-append, Bor}
 use Rattle.std.specs.List.{AllByRecursion}
 use Rattle.std.proofs.lemmas.List.{append_assoc, append-nil}
 use Rattle.std.proofs.ByRecursion.{All-append}
 use Rattle.std.proofs.lemmas.Bool.{and_parts, eqb-true, eq-eqb}
-use Rattle.std.proofs.lemmas.Nat.{mod_below}
 use Rattle.boards.specs.declared.Set.{Set}
 use Rattle.boards.specs.Boards.{size, member, place}
 use Rattle.boards.proofs.Sets.{size_le, place_last}
@@ -16,13 +15,12 @@ use Rattle.wire.specs.declared.message.Tags.{Tags}
 use Rattle.wire.specs.declared.message.Entries.{Entries}
 use Rattle.wire.specs.Fields.{entries}
 use Rattle.wire.specs.Messages.{Reply, tags_of, replies_of, listed}
-use Rattle.wire.specs.Format.{message, body, reply_values, replies_values}
+use Rattle.wire.specs.Format.{message, body, replies_values}
 use Rattle.layout.specs.declared.plan.Head.{Head}
-use Rattle.layout.specs.declared.plan.Middle.{Middle}
 use Rattle.layout.specs.declared.plan.Middle.TheVariants.{Nothing, Payload, Tag, Replies}
 use Rattle.layout.specs.Heads.{Goes, Holds, Heads}
 use Rattle.layout.specs.Measures.{Bytes, Measured, Tagged, Even, reply_of, Gathers}
-use Rattle.layout.specs.Layouts.{Fronts, Whole, head_bytes, entry_byte, replies_bytes}
+use Rattle.layout.specs.Layouts.{Fronts, Whole, head_bytes, replies_bytes}
 use Rattle.layout.proofs.Rests.{un_raw, join, cut, front, clash}
 use Rattle.grammar.proofs.Cuts.{spell_append}
 use Rattle.layout.proofs.Joins.{beside}

@@ -1,10 +1,10 @@
 -- Fields side by side in one number.
 -- A head with one more field has the bits of both, whatever stood before.
-use Rattle.std.proofs.Common.{◌≡◌, ℕ, ◌+◌, ◌-◌, ◌*◌, ◌/◌, ◌%◌, ◌^◌, ◌<◌, ◌≤◌, Bool, true, false, ◌&&◌, ltb, List, [], ◌∷◌, ◌++◌, sym, refl, ap, ◌∙◌, subst, add_comm, arith}
-use Rattle.std.proofs.lemmas.List.{append_assoc, append-nil}
+use Rattle.std.proofs.Common.{◌≡◌, ℕ, ◌+◌, ◌*◌, ◌%◌, ◌^◌, ◌<◌, Bool, ◌&&◌, ltb, List, [], ◌∷◌, ◌++◌, sym, refl, ap, ◌∙◌, subst, add_comm}
+use Rattle.std.proofs.lemmas.List.{append-nil}
 use Rattle.std.proofs.lemmas.Nat.{shr_high, mod_low, mod_below, pow-add, pow_pos, mul-add-lt}
-use Rattle.grammar.specs.Bits.{bits_of, bits}
-use Rattle.grammar.specs.Grammar.{Grammar, Item, spell, written}
+use Rattle.grammar.specs.Bits.{bits_of}
+use Rattle.grammar.specs.Grammar.{Grammar, Item, spell}
 use Rattle.wire.specs.Format.{message, body}
 use Rattle.grammar.proofs.Bits.{parts, low}
 use Rattle.grammar.proofs.Cuts.{spell_append}

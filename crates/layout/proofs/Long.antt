@@ -1,6 +1,6 @@
 -- How many bytes a formed message has, kind by kind; none has more than 140.
 -- From this follow tighter bounds where sets are known to be smaller.
-use Rattle.std.proofs.Common.{◌≡◌, ℕ, zero, suc, ◌+◌, ◌*◌, ◌/◌, ◌<◌, ◌≤◌, Bool, List, [], ◌∷◌, ◌++◌, length, sym, refl, ap, ◌∙◌, subst, arith, length-append}
+use Rattle.std.proofs.Common.{◌≡◌, ℕ, ◌+◌, ◌*◌, ◌/◌, ◌<◌, ◌≤◌, Bool, List, [], ◌∷◌, ◌++◌, length, refl, ◌∙◌, arith, length-append}
 use Rattle.std.specs.List.{AllByRecursion}
 use Rattle.boards.specs.Boards.{size}
 use Rattle.boards.proofs.Sets.{size_le}
@@ -9,7 +9,7 @@ use Rattle.grammar.specs.Grammar.{Grammar, Item, After, spell}
 use Rattle.grammar.proofs.Bits.{length_bits_of, length_bits, length_bytes_of}
 use Rattle.wire.specs.Fields.{graded, carried}
 use Rattle.wire.specs.Messages.{Msg, Reply}
-use Rattle.wire.specs.Format.{message, values, Formed, form, packed, set_values, graded_values, replies_values}
+use Rattle.wire.specs.Format.{values, Formed, form, packed, set_values, graded_values, replies_values}
 use Rattle.layout.specs.Measures.{Tagged}
 use Rattle.layout.proofs.Rests.{un_num, un_raw}
 use Rattle.layout.proofs.Allowed.{body_of}

@@ -1,10 +1,10 @@
 -- Bytes and their bits.
 -- A byte and a run of bytes as items; a head's bytes have its bits.
-use Rattle.std.proofs.Common.{◌≡◌, ℕ, ◌+◌, ◌*◌, ◌/◌, ◌%◌, ◌^◌, ◌<◌, ◌≤◌, List, [], ◌∷◌, ◌++◌, length, take, sym, refl, ap, ◌∙◌, subst, arith, take_all}
-use Rattle.std.proofs.lemmas.List.{append_assoc, append-nil}
-use Rattle.grammar.specs.Bits.{bits_of, bits, bytes_of}
+use Rattle.std.proofs.Common.{◌≡◌, ℕ, ◌*◌, ◌/◌, List, [], ◌∷◌, length, sym, refl, ◌∙◌, arith, take_all}
+use Rattle.std.proofs.lemmas.List.{append-nil}
+use Rattle.grammar.specs.Bits.{bits_of, bits}
 use Rattle.grammar.specs.Grammar.{Item, spell}
-use Rattle.grammar.proofs.Bits.{length_bits_of, length_bits, bytes_bits, bits_bytes, bytes_fit, length_bytes_of}
+use Rattle.grammar.proofs.Bits.{length_bits_of, bits_bytes, bytes_fit, length_bytes_of}
 use Rattle.layout.specs.declared.plan.Head.{Head}
 use Rattle.layout.specs.Measures.{Bytes}
 use Rattle.layout.specs.Layouts.{head_bytes, Whole}

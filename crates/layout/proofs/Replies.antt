@@ -1,18 +1,17 @@
 -- Replies by rising board number: they are what is heard or stored, and stand one after another.
 -- Board by board they may stand, or one of them, or their number, may not.
-use Rattle.std.proofs.Common.{◌≡◌, ℕ, zero, suc, ◌+◌, ◌-◌, ◌*◌, ◌/◌, ◌^◌, ◌<◌, ◌≤◌, max, Bool, true, false, cond, ◌&&◌, eqb, leb, ◌⊎◌, List, [], ◌∷◌, ◌++◌, length, get_or, take, drop, None, sym, refl, ap, ◌∙◌, subst, inl, inr, ⊎_elim, add-zero, add-one, arith, length-append}
+use Rattle.std.proofs.Common.{◌≡◌, ℕ, zero, suc, ◌+◌, ◌-◌, ◌*◌, ◌/◌, ◌<◌, ◌≤◌, max, Bool, true, false, cond, eqb, leb, List, [], ◌∷◌, ◌++◌, length, get_or, drop, None, sym, refl, ap, ◌∙◌, subst, ⊎_elim, add-zero, add-one, arith, length-append}
 use Rattle.std.specs.List.{AllByRecursion}
 use Rattle.std.proofs.lemmas.List.{append_assoc, append-nil, length-take-le, length-take, length-drop}
-use Rattle.std.proofs.ByRecursion.{All-append, All-push, All-take, All-drop}
+use Rattle.std.proofs.ByRecursion.{All-push, All-take, All-drop}
 use Rattle.std.proofs.lemmas.Bool.{and_parts, and_from, leb-true, cond_both, cases_eq, cases_Bool, eq-eqb, eqb-true}
 use Rattle.boards.specs.Boards.{member, size, place, tally, one}
-use Rattle.boards.proofs.Sets.{place_first, place_last, place_below, place_next, size_le}
+use Rattle.boards.proofs.Sets.{place_first, place_last, place_below, place_next}
 use Rattle.grammar.specs.Grammar.{Grammar, Item, After, from_to}
-use Rattle.wire.specs.declared.message.Entry.{Entry}
 use Rattle.wire.specs.declared.message.Entries.{Entries}
 use Rattle.wire.specs.declared.message.Entries.TheVariants.{Heard, Stored}
 use Rattle.wire.specs.Fields.{entered, entries, proof}
-use Rattle.wire.specs.Messages.{Reply, listed, reply_at, replies_in, heard_replies, replies_of}
+use Rattle.wire.specs.Messages.{Reply, listed, reply_at, replies_in, replies_of}
 use Rattle.wire.specs.Format.{reply_values, replies_values, set_values}
 use Rattle.layout.specs.Measures.{Bytes, Even, Evened, Short, Replied, reply_of, proper, most_change, Tagged, Going, Gathers, Gathered}
 use Rattle.layout.proofs.Rests.{un_num, un_raw, un_wide, join, cut, clash}

@@ -1,10 +1,9 @@
 -- A set and its tags at the end of a message.
 -- With them the fields are a message's, if tags and set are as the format wants; else no message's.
-use Rattle.std.proofs.Common.{◌≡◌, ℕ, ◌+◌, ◌*◌, ◌/◌, ◌%◌, ◌^◌, ◌<◌, ◌≤◌, Bool, true, false, eqb, List, [], ◌∷◌, ◌++◌, length, sym, refl, ap, ◌∙◌, subst, ⊎_elim, arith, length-append}
-use Rattle.std.specs.List.{AllByRecursion}
-use Rattle.std.proofs.lemmas.List.{append_assoc, append-nil}
+use Rattle.std.proofs.Common.{◌≡◌, ℕ, ◌*◌, ◌<◌, ◌≤◌, Bool, true, false, eqb, List, [], ◌∷◌, ◌++◌, length, sym, ap, ◌∙◌, subst, ⊎_elim, arith, length-append}
+use Rattle.std.proofs.lemmas.List.{append_assoc}
 use Rattle.std.proofs.ByRecursion.{All-append}
-use Rattle.std.proofs.lemmas.Bool.{eqb-true, eq-eqb, cases_Bool}
+use Rattle.std.proofs.lemmas.Bool.{eq-eqb, cases_Bool}
 use Rattle.boards.specs.declared.Set.{Set}
 use Rattle.boards.specs.Boards.{size, only}
 use Rattle.boards.proofs.Members.{only_above}
@@ -18,8 +17,8 @@ use Rattle.wire.specs.Format.{message, set_values}
 use Rattle.layout.specs.declared.plan.Head.{Head}
 use Rattle.layout.specs.declared.plan.Middle.{Middle}
 use Rattle.layout.specs.Heads.{Goes}
-use Rattle.layout.specs.Measures.{Bytes, Measured}
-use Rattle.layout.specs.Layouts.{Fronts, Lays, Sealed, head_bytes, middle_bytes, layout_bytes}
+use Rattle.layout.specs.Measures.{Bytes}
+use Rattle.layout.specs.Layouts.{Fronts, Lays, head_bytes, middle_bytes}
 use Rattle.layout.proofs.Rests.{un_num, un_raw, join, cut, front, clash}
 use Rattle.grammar.proofs.Bits.{bits_append}
 use Rattle.grammar.proofs.Cuts.{spell_append}

@@ -4,7 +4,7 @@ use Rattle.std.specs.Prelude.{◌≡◌, ℕ, ◌+◌, ◌-◌, ◌*◌, ◌<◌
 use Rattle.std.specs.List.{AllByRecursion}
 use Rattle.boards.specs.declared.Set.{Set}
 use Rattle.boards.specs.Boards.{size, member, place}
-use Rattle.grammar.specs.Grammar.{Grammar, Item, After, from_to}
+use Rattle.grammar.specs.Grammar.{Grammar, After, from_to}
 use Rattle.wire.specs.declared.message.Tags.{Tags}
 use Rattle.wire.specs.declared.message.Entry.{Entry}
 use Rattle.wire.specs.declared.message.Entries.{Entries}

@@ -1,6 +1,6 @@
 -- What an ask says that is not refused, and that a board always trusts some member: itself.
 -- From the order of the reasons.
-use Rattle.std.proofs.Common.{◌≡◌, ℕ, zero, suc, ◌+◌, ◌<◌, ◌≤◌, Bool, true, false, cond, not, ◌&&◌, ◌||◌, eqb, ltb, leb, Some, None, Option, sym, refl, ap, ◌∙◌, subst, add-one, arith}
+use Rattle.std.proofs.Common.{◌≡◌, ℕ, ◌+◌, ◌<◌, ◌≤◌, Bool, true, false, cond, not, ◌&&◌, ◌||◌, eqb, leb, Some, None, Option, sym, refl, ap, ◌∙◌, add-one, arith}
 use Rattle.std.proofs.lemmas.Bool.{and_from, and_parts, both_ways, eq-eqb, leb-false, ltb-false, ne_eqb, not-false, not_from_false, or_from, or_parts}
 use Rattle.boards.specs.Boards.{member}
 use Rattle.codes.specs.declared.Refusal.{Refusal}

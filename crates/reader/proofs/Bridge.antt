@@ -1,17 +1,16 @@
 -- A reader's fields are the numbers of its bits: the one bridge from bytes and shifts to the bits of the format.
 -- Laws used: grammar's Bits and Steps.
-use Rattle.std.proofs.Common.{◌≡◌, ℕ, zero, suc, ◌+◌, ◌-◌, ◌*◌, ◌/◌, ◌%◌, ◌^◌, ◌<◌, ◌≤◌, Bool, true, false, ◌⊎◌, List, [], ◌∷◌, ◌++◌, length, get_or, take, drop, Ok, Err, Result, sym, refl, ap, ◌∙◌, subst, inl, inr, ⊎_elim, add-zero, add_assoc, zero-add, arith, length-append, length-drop, take-append-drop, drop_of_length-le, length-take-le, get_or-drop, drop-drop, take_at, drop_at, Bor}
-use lib.Seq.{take-append-le, drop-append-le, drop-nil, drop-append-add}
+use Rattle.std.proofs.Common.{◌≡◌, ℕ, zero, suc, ◌+◌, ◌-◌, ◌*◌, ◌/◌, ◌%◌, ◌^◌, ◌<◌, ◌≤◌, Bool, true, false, List, [], ◌∷◌, ◌++◌, length, get_or, take, drop, Ok, Err, sym, ap, ◌∙◌, add-zero, arith, length-drop, take-append-drop, drop_of_length-le, length-take-le, get_or-drop, drop-drop, take_at, drop_at, Bor}
+use lib.Seq.{take-append-le, drop-append-le}
 use Rattle.std.specs.List.{AllByRecursion}
 use Rattle.std.proofs.lemmas.List.{append_assoc, append-nil}
 use Rattle.grammar.specs.declared.fault.Layer.TheVariants.{Bytes, Field}
-use Rattle.grammar.specs.declared.fault.Fault.{Fault}
 use Rattle.grammar.specs.Bits.{bits_of, number_of, bits, bytes_of}
 use Rattle.grammar.specs.Grammar.{Grammar, Item, outcome, more, fault}
 use Rattle.grammar.proofs.Bits.{length_bits_of, length_bits, number_bits, bytes_bits, parts, low, bits_append, drop_bits}
 use Rattle.grammar.proofs.Steps.{field_short, field_bad, field_good, part_short, part_good, done_good, done_over}
 use Rattle.reader.specs.declared.place.Reader.{Reader}
-use Rattle.reader.specs.Places.{at, src, met, pair, field_at, Got, Read, Part, Found, Cut}
+use Rattle.reader.specs.Places.{at, src, met, pair, Got, Read, Part, Found, Cut}
 
 -- the w bits from bit r on of a number of 16 bits
 cut : (r w n : ℕ) (rest : List Bool) → r + w ≤ 16 → take w (drop r (bits_of 16 n ++ rest)) ≡ bits_of w (n / 2 ^ (16 - (r + w)))

@@ -1,9 +1,9 @@
 -- A message by its kind: what was read of kind, view and body is what the whole bytes spell.
 -- Laws used: the outcome of a grammar is exact, and bytes are told by their bits.
-use Rattle.std.proofs.Common.{◌≡◌, ℕ, ◌<◌, List, [], ◌∷◌, get_or, Ok, Err, Result, sym, ap, ◌∙◌, subst}
+use Rattle.std.proofs.Common.{◌≡◌, ℕ, ◌<◌, List, [], ◌∷◌, get_or, Ok, Err, Result, ap, ◌∙◌}
 use Rattle.grammar.specs.declared.fault.Fault.{Fault}
 use Rattle.grammar.specs.Bits.{bits}
-use Rattle.grammar.specs.Grammar.{Grammar, Item, Stands, more, outcome, from_to}
+use Rattle.grammar.specs.Grammar.{Item, Stands, more, outcome, from_to}
 use Rattle.grammar.proofs.Lawful.{exact, faults}
 use Rattle.grammar.proofs.Steps.{more_more}
 use Rattle.wire.specs.declared.message.Message.{Message}

@@ -1,8 +1,8 @@
 -- A byte with one bit set is the set of one board: the one that its leading zeros count.
 -- Shown by computing over all bytes.
-use Rattle.std.proofs.Common.{◌≡◌, ℕ, zero, suc, ◌+◌, ◌-◌, ◌/◌, ◌^◌, ◌<◌, Bool, true, false, not, ◌&&◌, ◌||◌, eqb, ltb, sym, refl, ap, ◌∙◌, ⊎_elim, arith}
+use Rattle.std.proofs.Common.{◌≡◌, ℕ, ◌/◌, ◌^◌, ◌<◌, Bool, true, not, ◌&&◌, ◌||◌, eqb, ltb, refl, ⊎_elim}
 use lib.Count.{ones, count_leading_zeros}
-use Rattle.std.proofs.lemmas.Bool.{and_parts, cases_eq, eqb-true, ltb-true, or_cases, both_ways, not-true, eq-eqb}
+use Rattle.std.proofs.lemmas.Bool.{and_parts, eqb-true, ltb-true, or_cases, both_ways, not-true, eq-eqb}
 use Rattle.boards.specs.Boards.{only, every}
 use Rattle.boards.proofs.Chosen.{every_at}
 

@@ -1,8 +1,6 @@
 -- Entries one by one: what a loop over entries has passed after each, and at the end.
 -- Laws used: what one entry passes (`entered_by`).
-use Rattle.std.proofs.Common.{◌≡◌, ℕ, zero, suc, ◌+◌, ◌-◌, ◌*◌, ◌/◌, ◌%◌, ◌^◌, ◌<◌, ◌≤◌, max, cond, eqb, leb, List, [], ◌∷◌, ◌++◌, length, get_or, take, drop, Ok, Err, Result, sym, refl, ap, ◌∙◌, subst, add-one, arith, length-drop, length-take-le, get_or-drop, get_or-take, take-take, drop-drop, Bor}
-use Rattle.std.proofs.lemmas.List.{append-nil}
-use Rattle.std.proofs.lemmas.Bool.{and_parts, leb-true}
+use Rattle.std.proofs.Common.{◌≡◌, ℕ, zero, suc, ◌+◌, ◌-◌, ◌*◌, ◌/◌, ◌%◌, ◌^◌, ◌<◌, ◌≤◌, max, cond, eqb, List, [], ◌∷◌, ◌++◌, length, get_or, take, drop, Ok, Err, Result, sym, refl, ap, ◌∙◌, add-one, arith, length-drop, length-take-le, get_or-drop, get_or-take, take-take, drop-drop, Bor}
 use Rattle.std.proofs.lemmas.Slice.{between_is}
 use Rattle.grammar.specs.declared.fault.Fault.{Fault}
 use Rattle.grammar.specs.Grammar.{Grammar, Item, more, from_to}
@@ -14,7 +12,7 @@ use Rattle.wire.specs.Messages.{Reply, reply_at, replies_in, heard_replies}
 use Rattle.wire.specs.Format.{reply_values, replies_values}
 use Rattle.reader.specs.declared.parts.Reply.{Reply as ReplyRead}
 use Rattle.wire.specs.Fields.{entered, entries}
-use Rattle.reader.specs.Parts.{items, reply, Entered, All}
+use Rattle.reader.specs.Parts.{items, Entered, All}
 
 field_in : (r : Reader) (b q w : ℕ) → at r ≡ 8 * b + q → q < 8 → field_at (src r) (at r) w ≡ pair (src r) b / 2 ^ (16 - (q + w)) % 2 ^ w
 field_in r b q w e h =

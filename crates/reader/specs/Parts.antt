@@ -1,13 +1,13 @@
 -- What the parts of messages are, whatever comes after them: the part was passed, with these items, or it has this first fault.
 -- The names of the parts are those of the format.
-use Rattle.std.specs.Prelude.{◌≡◌, ℕ, zero, suc, ◌+◌, ◌*◌, ◌/◌, ◌%◌, ◌<◌, List, [], ◌∷◌, ◌++◌, length, get_or, take, drop, Ok, Err, Result}
+use Rattle.std.specs.Prelude.{◌≡◌, ℕ, ◌+◌, ◌<◌, List, [], Ok, Err, Result}
 use Rattle.std.specs.Borrow.{Bor}
 use Rattle.boards.specs.Boards.{only}
 use Rattle.grammar.specs.declared.fault.Fault.{Fault}
 use Rattle.grammar.specs.Grammar.{Grammar, Item, more}
 use Rattle.wire.specs.declared.message.Content.{Content}
 use Rattle.wire.specs.Fields.{lone_tag, tagged, proof, entered, entries, graded, carried}
-use Rattle.wire.specs.Messages.{Reply, reply_at, replies_in, heard_replies}
+use Rattle.wire.specs.Messages.{Reply, reply_at, heard_replies}
 use Rattle.wire.specs.Format.{graded_values, content_values, set_values, reply_values, replies_values}
 use Rattle.reader.specs.declared.place.Reader.{Reader}
 use Rattle.reader.specs.declared.parts.Reply.{Reply as ReplyRead}

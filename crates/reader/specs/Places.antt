@@ -2,7 +2,7 @@
 -- "Whatever comes after" is the argument k of each clause, so that steps follow one another as equations.
 use Rattle.std.specs.Prelude.{◌≡◌, ℕ, ◌+◌, ◌-◌, ◌*◌, ◌/◌, ◌%◌, ◌^◌, ◌<◌, ◌≤◌, Bool, true, List, [], ◌∷◌, length, take, drop, Ok, Err, Result, slice_index, slice_index_or}
 use Rattle.std.specs.Borrow.{Bor}
-use Rattle.grammar.specs.declared.fault.Layer.TheVariants.{Bytes, Field}
+use Rattle.grammar.specs.declared.fault.Layer.TheVariants.{Bytes}
 use Rattle.grammar.specs.declared.fault.Fault.{Fault}
 use Rattle.grammar.specs.Bits.{bits}
 use Rattle.grammar.specs.Grammar.{Grammar, Item, outcome, more, fault, from_to}

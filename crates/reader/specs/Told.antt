@@ -1,6 +1,6 @@
 -- What reading tells, in terms of the format: `Reads` of the format speaks of plain messages, `told` brings the program's answer there.
 -- BodyRead speaks of what follows kind and view.
-use Rattle.std.specs.Prelude.{◌≡◌, ℕ, List, [], ◌∷◌, Ok, Err, Result}
+use Rattle.std.specs.Prelude.{◌≡◌, ℕ, [], ◌∷◌, Ok, Err, Result}
 use Rattle.grammar.specs.declared.fault.Fault.{Fault}
 use Rattle.grammar.specs.Grammar.{Item, more}
 use Rattle.wire.specs.declared.message.Message.{Message}

@@ -1,7 +1,7 @@
 -- What the facts that every row keeps say one by one, and what makes them.
 -- Only this file opens `keeps`, `tells` and `proves`.
-use Rattle.std.proofs.Common.{◌≡◌, ℕ, ◌+◌, ◌<◌, ◌≤◌, Bool, true, false, not, ◌&&◌, ◌||◌, eqb, ltb, leb, Some, None, sym, refl, ap, ◌∙◌, ⊎_elim, arith}
-use Rattle.std.proofs.lemmas.Bool.{and_from, and_parts, both_ways, cases_Bool, eq-eqb, eqb-true, eqb-false, leb-true, le-leb, ltb-true, lt-ltb, ne_eqb, not_from_false, not_from_true, not-true, or_cases, or_left, or_right}
+use Rattle.std.proofs.Common.{◌≡◌, ℕ, ◌<◌, ◌≤◌, Bool, true, false, not, ◌||◌, eqb, ltb, leb, Some, None, sym, refl, ap, ◌∙◌, ⊎_elim, arith}
+use Rattle.std.proofs.lemmas.Bool.{and_from, and_parts, both_ways, cases_Bool, eq-eqb, eqb-true, eqb-false, leb-true, le-leb, ltb-true, lt-ltb, ne_eqb, not_from_false, not-true, or_cases, or_left, or_right}
 use Rattle.boards.specs.Boards.{member, size}
 use Rattle.boards.proofs.Members.{member_below}
 use Rattle.wire.specs.declared.message.Entry.{Entry}

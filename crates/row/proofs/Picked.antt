@@ -1,15 +1,14 @@
 -- Sets that are put together of boards, who holds a rank, and sets within others, in the words of members.
 -- Only this file opens `insert` and `set_of`.
-use Rattle.std.proofs.Common.{◌≡◌, ℕ, zero, suc, ◌+◌, ◌-◌, ◌*◌, ◌/◌, ◌%◌, ◌^◌, ◌<◌, ◌≤◌, Bool, true, false, cond, not, ◌&&◌, ◌||◌, eqb, ltb, Some, None, Decides, sym, refl, ap, ◌∙◌, ⊎_elim, div-le_self, arith}
+use Rattle.std.proofs.Common.{◌≡◌, ℕ, zero, suc, ◌+◌, ◌^◌, ◌<◌, ◌≤◌, Bool, true, false, cond, not, ◌&&◌, ◌||◌, eqb, ltb, Some, None, Decides, sym, refl, ap, ◌∙◌, ⊎_elim, div-le_self, arith}
 use lib.Bits.{bit_or}
 use Rattle.std.proofs.lemmas.Nat.{or_lt}
-use Rattle.std.proofs.lemmas.Bool.{and_from, and_left, and_right, and_parts, both_ways, cases_Bool, cases_eq, cases_lt, cond-true, cond-false, eq-eqb, eqb-true, lt-ltb, le-ltb, ne_eqb, not_from_true, not_from_false, not-false}
-use Rattle.boards.specs.Boards.{member, only, size, place, Within, With, Holder}
+use Rattle.std.proofs.lemmas.Bool.{and_from, and_left, and_right, and_parts, both_ways, cases_Bool, cases_eq, cases_lt, eq-eqb, eqb-true, lt-ltb, le-ltb, ne_eqb, not_from_true, not_from_false, not-false}
+use Rattle.boards.specs.Boards.{member, only, place, Within, With, Holder}
 use Rattle.boards.proofs.Members.{member_below, member_none, member_only, member_or, same_set}
-use Rattle.boards.proofs.Sets.{place_below, place_rises, same_place, with_old}
+use Rattle.boards.proofs.Sets.{place_below, place_rises}
 use Rattle.views.specs.Groups.{Manager}
-use Rattle.row.specs.States.{highest, set_of, insert, manager_in, seat}
-use Rattle.boards.specs.Boards.{any}
+use Rattle.row.specs.States.{set_of, insert, manager_in, seat}
 use Rattle.row.specs.Refusals.{strays}
 use Rattle.row.proofs.Chosen.{highest_is, highest_none}
 use Rattle.boards.proofs.Chosen.{any_false, any_none}

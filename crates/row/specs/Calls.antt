@@ -1,6 +1,6 @@
 -- What each call at a row promises, over any scheme: the answer, the next state, what the scheme then holds, and every offered byte.
 -- Only a new tag is fixed by no equation; it is given by what signing means.
-use Rattle.std.specs.Prelude.{◌≡◌, ℕ, Bool, true, false, List, [], ◌∷◌, ◌++◌, length, drop, Some, None, Ok, Err, Option, Result}
+use Rattle.std.specs.Prelude.{◌≡◌, ℕ, true, List, ◌++◌, length, drop, Some, None, Ok, Err, Option, Result}
 use Rattle.codes.specs.declared.Refusal.{Refusal}
 use Rattle.schemes.specs.declared.Scheme.{Ghosts}
 use Rattle.schemes.specs.Meaning.{Signed}

@@ -1,21 +1,18 @@
 -- What an accepted call does at a row: the next state, and what is sent to whom.
 -- Votes (answers to certificates) are signed; counts of lone messages become certificates; a change makes the next view.
-use Rattle.std.specs.Prelude.{◌≡◌, ℕ, zero, suc, ◌+◌, ◌-◌, ◌*◌, ◌%◌, ◌<◌, ◌≤◌, Bool, true, false, cond, not, ◌&&◌, ◌||◌, List, [], ◌∷◌, length, set, Some, None, Option, ◌==◌, nat_le, nat_lt, slice_set}
+use Rattle.std.specs.Prelude.{ℕ, ◌+◌, ◌-◌, ◌*◌, ◌%◌, Bool, cond, not, ◌&&◌, ◌||◌, List, [], ◌∷◌, Some, ◌==◌, nat_le, nat_lt, slice_set}
 use Rattle.boards.specs.Boards.{member, size, place, only}
 use Rattle.views.specs.Histories.{grown}
 use Rattle.views.specs.Shares.{share, quorum}
 use Rattle.wire.specs.declared.message.Entry.{Entry}
-use Rattle.wire.specs.Messages.{Msg, Reply, none, stored_tags, stored_replies}
-use Rattle.wire.specs.Acts.{Act, lowest, tag_of, tag_at, proof_of, tag_number}
+use Rattle.wire.specs.Messages.{Msg, stored_tags, stored_replies}
+use Rattle.wire.specs.Acts.{Act, lowest, tag_of, tag_at, tag_number}
 use Rattle.row.specs.declared.state.Count.{Count}
-use Rattle.row.specs.declared.state.Kept.{Kept}
 use Rattle.row.specs.declared.state.Stand.{Stand}
-use Rattle.row.specs.declared.state.Stand.TheVariants.{Idle, Acks, Readies, Lasts, Done}
+use Rattle.row.specs.declared.state.Stand.TheVariants.{Acks, Readies, Lasts, Done}
 use Rattle.row.specs.declared.state.Leader.{Leader}
-use Rattle.row.specs.declared.state.Voter.{Voter}
 use Rattle.row.specs.declared.state.State.{State}
-use Rattle.row.specs.States.{highest, set_of, insert, the_set, latest, group, many, manager, manager_in, seat, inside, count_at, counted, count_tags, kept_entry, fresh, with_voter, with_leader, with_floor}
-use Rattle.row.specs.Refusals.{slot}
+use Rattle.row.specs.States.{highest, set_of, insert, the_set, latest, group, many, manager, seat, inside, count_at, counted, count_tags, kept_entry, fresh, with_voter, with_leader, with_floor}
 
 -- What is sent: nothing; the lone message of an act that the row signs, in a last with a proof; a message made of tags it has, or passed on.
 pub data Effect : Type 0 where

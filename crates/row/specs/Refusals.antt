@@ -1,13 +1,13 @@
 -- Why a call at a row is refused: each reason is a test of its own, and the answer is the first that holds, in the order of docs/REFUSALS.md.
 -- Messages of kinds 11 to 13 are not of this layer; no test speaks of them.
-use Rattle.std.specs.Prelude.{◌≡◌, ℕ, ◌+◌, ◌-◌, ◌*◌, ◌<◌, ◌≤◌, Bool, true, false, cond, not, ◌&&◌, ◌||◌, List, [], ◌∷◌, Some, None, Option, ◌==◌, nat_le, nat_lt, slice_index_or}
+use Rattle.std.specs.Prelude.{ℕ, ◌+◌, ◌-◌, ◌*◌, Bool, true, false, cond, not, ◌&&◌, ◌||◌, List, [], ◌∷◌, Some, None, Option, ◌==◌, nat_le, nat_lt, slice_index_or}
 use Rattle.boards.specs.Boards.{member, size, place, only}
 use Rattle.codes.specs.declared.Refusal.{Refusal}
 use Rattle.codes.specs.declared.Refusal.TheVariants.{Board, Out, View, Member, Change, Turn, Late, Known, Size, Split, Tag, Spent}
 use Rattle.views.specs.Shares.{share, quorum}
 use Rattle.wire.specs.declared.message.Entry.{Entry}
 use Rattle.wire.specs.Messages.{Msg, Reply, view_of}
-use Rattle.wire.specs.Acts.{Act, signers, lowest, no_reply}
+use Rattle.wire.specs.Acts.{lowest, no_reply}
 use Rattle.row.specs.declared.state.State.{State}
 use Rattle.row.specs.States.{latest, group, many, manager, inside, at_rank, is_idle, awaits_acks, awaits_readies, awaits_lasts, count_at}
 use Rattle.boards.specs.Boards.{any}

@@ -1,12 +1,12 @@
 -- What the rules say of a row's state: its group, ranks and roles, and what it counted.
 -- x is the latest view, its members the group; rank n of n members is the manager.
-use Rattle.std.specs.Prelude.{◌≡◌, ℕ, zero, suc, ◌+◌, ◌-◌, ◌*◌, ◌/◌, ◌%◌, ◌<◌, ◌≤◌, Bool, true, false, cond, not, ◌&&◌, ◌||◌, List, [], ◌∷◌, length, set, replicate, Some, None, Option, ◌==◌, bit_or, slice_index_or, slice_set}
+use Rattle.std.specs.Prelude.{ℕ, zero, suc, ◌+◌, ◌*◌, Bool, true, false, cond, ◌&&◌, List, replicate, Some, None, Option, ◌==◌, bit_or, slice_index_or, slice_set}
 use Rattle.boards.specs.declared.Set.{Set}
 use Rattle.boards.specs.Boards.{member, size, place, only}
 use Rattle.views.specs.declared.history.History.{History}
 use Rattle.views.specs.Histories.{members_of}
 use Rattle.wire.specs.declared.message.Entry.{Entry}
-use Rattle.wire.specs.Messages.{Msg, none, stored_tags}
+use Rattle.wire.specs.Messages.{none, stored_tags}
 use Rattle.row.specs.declared.state.Count.{Count}
 use Rattle.row.specs.declared.state.Kept.{Kept}
 use Rattle.row.specs.declared.state.Stand.{Stand}

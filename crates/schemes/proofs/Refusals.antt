@@ -1,8 +1,6 @@
 -- What an accepted or a refused call of sign says, for any scheme.
 -- Layers above cite these in place of the list of reasons.
-use Rattle.std.proofs.Common.{◌≡◌, ℕ, ◌<◌, ◌≤◌, Bool, true, false, cond, not, ◌&&◌, List, length, Some, None, Option, sym, refl, true≢false, arith}
-use Rattle.std.proofs.lemmas.Bool.{and_parts, lt-ltb}
-use Rattle.schemes.specs.Bounds.{signable_says}
+use Rattle.std.proofs.Common.{◌≡◌, ℕ, Bool, true, false, cond, not, ◌&&◌, List, Some, None, Option, sym, refl, true≢false, arith}
 use Rattle.schemes.specs.Meaning.{Good, on_board, sized, signable, sign_refusal, Signed, Refused}
 use Rattle.schemes.specs.declared.SignRefusal.{SignRefusal}
 use Rattle.schemes.specs.declared.SignRefusal.TheVariants.{Board, Long, Spent}

@@ -1,6 +1,6 @@
 -- Runs of calls of sign, one call at a time: what is good comes from the start or from an accepted call.
 -- The laws are inductions over a run.
-use Rattle.std.proofs.Common.{◌≡◌, ℕ, ◌<◌, Bool, true, false, ◌⊎◌, List, [], ◌∷◌, Ok, Err, Result, sym, refl, ap, ◌∙◌, inl, inr, ⊎_elim, arith}
+use Rattle.std.proofs.Common.{◌≡◌, ℕ, Bool, true, ◌⊎◌, List, Ok, Err, Result, sym, ap, ◌∙◌, inl, inr, ⊎_elim, arith}
 use Rattle.schemes.specs.Meaning.{Good, Signing}
 use Rattle.schemes.specs.Registers.{good_in, spent_in}
 use Rattle.schemes.specs.Runs.{Call, Run, Accepted, SignedIn, Earned, Lasting, RegisterEarned}

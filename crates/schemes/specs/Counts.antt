@@ -1,6 +1,6 @@
 -- How many of some boards' tags are good for words.
 -- A board that stands twice counts twice.
-use Rattle.std.specs.Prelude.{ℕ, ◌+◌, Bool, true, false, cond, List, [], ◌∷◌}
+use Rattle.std.specs.Prelude.{ℕ, ◌+◌, cond, List, [], ◌∷◌}
 use Rattle.schemes.specs.Meaning.{Good}
 use Rattle.schemes.specs.declared.counts.Tagged.{Tagged}
 

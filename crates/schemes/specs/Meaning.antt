@@ -1,6 +1,6 @@
 -- What a signature scheme means: which tags are good for a board and words, and whether it is spent.
 -- What signing may do to both, and why it may refuse.
-use Rattle.std.specs.Prelude.{◌≡◌, ℕ, ◌+◌, ◌<◌, ◌≤◌, Bool, true, false, cond, not, ◌&&◌, ◌⊎◌, List, [], ◌∷◌, length, Some, None, Ok, Err, Option, Result, nat_le, nat_lt}
+use Rattle.std.specs.Prelude.{◌≡◌, ℕ, ◌<◌, ◌≤◌, Bool, true, false, cond, not, ◌&&◌, ◌⊎◌, List, [], ◌∷◌, length, Some, None, Ok, Err, Option, Result, nat_le, nat_lt}
 use Rattle.schemes.specs.declared.SignRefusal.{SignRefusal}
 use Rattle.schemes.specs.declared.SignRefusal.TheVariants.{Board, Long, Spent}
 

@@ -1,6 +1,6 @@
 -- The register: rows of a board and words, the first of them used; a tag is the number of a row.
 -- Its own account of signing, row by row, and of what a run of calls leaves.
-use Rattle.std.specs.Prelude.{◌≡◌, ℕ, ◌+◌, Bool, true, ◌&&◌, ◌⊎◌, List, [], ◌∷◌, length, take, replicate, None, Ok, Err, Result, ◌==◌, ◌≢◌, nat_le, nat_lt, slice_index_or}
+use Rattle.std.specs.Prelude.{◌≡◌, ℕ, ◌+◌, Bool, true, ◌&&◌, List, [], length, take, replicate, None, Ok, Err, Result, ◌==◌, ◌≢◌, nat_le, nat_lt, slice_index_or}
 use Rattle.std.specs.Str.{bytes_eq}
 use Rattle.schemes.specs.Meaning.{Good, signable, sign_refusal, Refused}
 use Rattle.schemes.specs.declared.SignRefusal.{SignRefusal}

@@ -1,6 +1,6 @@
 -- One part of a line after another: the texts join, and the room needed adds up.
 -- A line as it is has nothing added.
-use Rattle.std.proofs.Common.{◌≡◌, ℕ, ◌+◌, ◌/◌, ◌%◌, ◌<◌, ◌≤◌, Bool, true, false, eqb, List, [], ◌∷◌, ◌++◌, length, get_or, take, vec_items, vec_len, vec_capacity, codes, sym, refl, ap, ◌∙◌, subst, true≢false, append_assoc, append-nil, arith, length-append, rules}
+use Rattle.std.proofs.Common.{◌≡◌, ℕ, ◌+◌, ◌/◌, ◌%◌, ◌<◌, Bool, true, false, eqb, List, [], ◌∷◌, ◌++◌, length, get_or, take, vec_len, vec_capacity, codes, sym, refl, ap, ◌∙◌, subst, true≢false, append_assoc, append-nil, arith, length-append, rules}
 use Rattle.script.specs.declared.line.Line.{Line}
 use Rattle.std.proofs.lemmas.List.{take_more}
 use Rattle.script.specs.Lines.{Wrote, held}

@@ -1,6 +1,6 @@
 -- Lists in the making: one more item at the end, and the whole.
 -- What a set lists, board by board.
-use Rattle.std.proofs.Common.{◌≡◌, ℕ, zero, suc, ◌+◌, ◌-◌, ◌*◌, ◌/◌, ◌%◌, ◌<◌, ◌≤◌, Bool, true, false, cond, List, [], ◌∷◌, ◌++◌, map, sym, refl, ap, ◌∙◌, subst, true≢false, append_assoc, append-nil, add-one, arith}
+use Rattle.std.proofs.Common.{◌≡◌, ℕ, ◌+◌, Bool, true, false, cond, List, [], ◌∷◌, ◌++◌, sym, refl, ap, ◌∙◌, subst, true≢false, append_assoc, append-nil, add-one}
 use Rattle.wire.specs.Messages.{listed}
 use Rattle.script.specs.declared.line.Line.{Line}
 use Rattle.script.specs.declared.lists.Listing.{Listing}

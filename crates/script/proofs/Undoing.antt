@@ -1,7 +1,6 @@
 -- Reading hexadecimal: byte by byte, and after writing.
 -- The digits of the sixteen numbers are tried one by one.
-use Rattle.std.proofs.Common.{◌≡◌, ℕ, zero, suc, ◌+◌, ◌*◌, ◌/◌, ◌%◌, ◌<◌, ◌≤◌, Bool, true, false, cond, ◌&&◌, eqb, List, [], ◌∷◌, ◌++◌, length, get_or, drop, sym, refl, ap, ◌∙◌, subst, append_assoc, append-nil, add-one, arith, drop-cons}
-use Rattle.std.specs.List.{AllByRecursion}
+use Rattle.std.proofs.Common.{◌≡◌, ℕ, suc, ◌+◌, ◌*◌, ◌/◌, ◌%◌, ◌<◌, true, cond, ◌&&◌, eqb, List, [], ◌∷◌, ◌++◌, length, get_or, drop, sym, refl, ap, ◌∙◌, subst, append_assoc, append-nil, add-one, arith, drop-cons}
 use Rattle.std.proofs.lemmas.Bool.{eqb-true, and_parts}
 use Rattle.std.proofs.lemmas.List.{length-drop}
 use Rattle.boards.specs.Boards.{every}
@@ -10,7 +9,7 @@ use Rattle.script.specs.declared.line.Line.{Line}
 use Rattle.script.specs.Lines.{Wrote}
 use Rattle.script.specs.Texts.{hex, hex_digit}
 use Rattle.script.specs.Words.{lead, hex_sign}
-use Rattle.script.specs.Hex.{nibble, read_hex, Hexadecimal, Undone}
+use Rattle.script.specs.Hex.{nibble, read_hex, Undone}
 use Rattle.script.proofs.Chains.{none, then}
 
 -- a digit is read as the number that it was written for

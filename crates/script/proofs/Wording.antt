@@ -1,6 +1,6 @@
 -- The words of bytes, one after another: blanks at the front do not count, and what stands up to the next blank is a word.
 -- For the call that finds the next word.
-use Rattle.std.proofs.Common.{◌≡◌, ℕ, zero, suc, ◌+◌, ◌<◌, ◌≤◌, Bool, true, false, cond, not, List, [], ◌∷◌, length, take, drop, sym, refl, ap, ◌∙◌, subst, arith}
+use Rattle.std.proofs.Common.{◌≡◌, ℕ, suc, ◌<◌, true, false, cond, not, List, [], ◌∷◌, length, take, drop, sym, refl, ap, ◌∙◌, arith}
 use Rattle.std.proofs.lemmas.List.{length-take-le}
 use Rattle.script.specs.Words.{lead, blank, onto, pieces, kept, words, chomped}
 use Rattle.script.proofs.Fronts.{lead_bound}

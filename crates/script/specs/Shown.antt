@@ -6,7 +6,7 @@ use Rattle.wire.specs.declared.message.Entry.{Entry}
 use Rattle.wire.specs.declared.message.Sort.{Sort}
 use Rattle.wire.specs.declared.message.Sort.TheVariants.{Report, End}
 use Rattle.wire.specs.Messages.{Msg, Reply}
-use Rattle.script.specs.Texts.{field, hex, boards_text, tags_text, entry_text, entries_text, replied_text, payload_text}
+use Rattle.script.specs.Texts.{field, boards_text, tags_text, entry_text, entries_text, replied_text, payload_text}
 
 -- A field that is a number.
 abbrev number : String → ℕ → List ℕ

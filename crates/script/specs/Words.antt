@@ -1,6 +1,6 @@
 -- The lines of a script and their words, as bytes of ASCII text.
 -- A number sign starts a comment; spaces and tabs stand between words; a carriage return at the end of a line is blank.
-use Rattle.std.specs.Prelude.{◌≡◌, ℕ, zero, suc, ◌+◌, ◌-◌, ◌<◌, Bool, true, false, cond, not, ◌&&◌, ◌||◌, List, [], ◌∷◌, length, take, drop, Some, None, Option, ◌==◌, nat_le, nat_lt, slice_index}
+use Rattle.std.specs.Prelude.{◌≡◌, ℕ, suc, ◌-◌, Bool, cond, not, ◌&&◌, ◌||◌, List, [], ◌∷◌, length, take, drop, Some, None, Option, ◌==◌, nat_le, nat_lt, slice_index}
 use Rattle.std.specs.Borrow.{Bor}
 use Rattle.script.specs.declared.words.Until.{Until}
 use Rattle.script.specs.declared.words.Until.TheVariants.{Mark, Blank, Solid, NotText, NotDigit}

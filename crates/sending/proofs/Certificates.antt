@@ -1,10 +1,9 @@
 -- Messages that gather the tags of a set as a row stores them: they are formed, and have at most 128 bytes.
 -- One lemma a kind; what the kinds share is the set with its tags.
-use Rattle.std.proofs.Common.{◌≡◌, ℕ, ◌+◌, ◌*◌, ◌/◌, ◌^◌, ◌<◌, ◌≤◌, Bool, true, false, cond, List, [], ◌∷◌, ◌++◌, length, sym, refl, ap, ◌∙◌, subst, arith}
-use Rattle.boards.specs.Boards.{member, size}
+use Rattle.std.proofs.Common.{ℕ, ◌<◌, ◌≤◌, List, length, refl, arith}
 use Rattle.boards.proofs.Sets.{size_le}
-use Rattle.grammar.specs.Grammar.{Grammar, from_to}
-use Rattle.grammar.proofs.Held.{held, stand}
+use Rattle.grammar.specs.Grammar.{Grammar}
+use Rattle.grammar.proofs.Held.{stand}
 use Rattle.layout.proofs.Stored.{stored_long, stored_fits}
 use Rattle.wire.specs.Messages.{Msg, stored_tags}
 use Rattle.wire.specs.Format.{Formed, form, message}

@@ -1,12 +1,12 @@
 -- Lone messages: the tag makes no difference to whether one is formed, and none has more than 128 bytes.
 -- The five kinds of this layer are formed at any view, rank, change and board that there is.
-use Rattle.std.proofs.Common.{◌≡◌, ℕ, ◌+◌, ◌*◌, ◌/◌, ◌^◌, ◌<◌, ◌≤◌, Bool, true, false, cond, eqb, leb, List, [], ◌∷◌, length, Some, None, Option, sym, refl, ap, ◌∙◌, subst, div-le_self, arith}
+use Rattle.std.proofs.Common.{◌≡◌, ℕ, ◌^◌, ◌<◌, ◌≤◌, Bool, true, false, cond, eqb, List, [], ◌∷◌, length, Some, None, Option, sym, refl, ap, ◌∙◌, subst, div-le_self, arith}
 use Rattle.std.proofs.lemmas.Bool.{and_from, both_ways, eq-eqb, le-leb, lt-ltb}
 use Rattle.schemes.specs.declared.Scheme.{Ghosts}
 use Rattle.schemes.specs.declared.SignRefusal.{SignRefusal}
 use Rattle.schemes.specs.Meaning.{Signed, Refused}
 use Rattle.schemes.proofs.Refusals.{refused_spent}
-use Rattle.boards.specs.Boards.{member, size, only}
+use Rattle.boards.specs.Boards.{member, only}
 use Rattle.boards.proofs.Members.{member_only}
 use Rattle.boards.proofs.Sets.{size_le, size_none}
 use Rattle.grammar.specs.Grammar.{Grammar, from_to}
@@ -14,12 +14,12 @@ use Rattle.grammar.proofs.Held.{held, stand}
 use Rattle.layout.proofs.Seals.{lone_below}
 use Rattle.layout.proofs.Stored.{tag_fits, stored_long, stored_fits}
 use Rattle.wire.specs.declared.message.Entry.{Entry}
-use Rattle.wire.specs.Messages.{Msg, Reply, tag_bytes, none, stored_tags}
-use Rattle.wire.specs.Format.{Formed, form, message, values}
-use Rattle.wire.specs.Acts.{Act, Allowed, signers, act_of, words}
+use Rattle.wire.specs.Messages.{Msg, tag_bytes, stored_tags}
+use Rattle.wire.specs.Format.{Formed, form, message}
+use Rattle.wire.specs.Acts.{Act, Allowed, words}
 use Rattle.wire.proofs.Signs.{EntryAllowed, signed_allowed, payload_le, words_long}
 use Rattle.wire.proofs.Speakers.{lone_below as speaker_below}
-use Rattle.wire.proofs.Widths.{wide, length_form}
+use Rattle.wire.proofs.Widths.{length_form}
 use Rattle.row.specs.Effects.{lone}
 use Rattle.row.specs.declared.state.Sent.{Sent}
 use Rattle.row.specs.Calls.{Posted}

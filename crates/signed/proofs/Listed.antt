@@ -1,14 +1,13 @@
 -- What stands at the place of a board in a list by rising board number: what the list says of that board.
 -- For tags in one row of bytes, eight a board, and for replies, heard or stored.
-use Rattle.std.proofs.Common.{◌≡◌, ℕ, zero, suc, ◌+◌, ◌-◌, ◌*◌, ◌/◌, ◌%◌, ◌<◌, ◌≤◌, Bool, true, false, cond, List, [], ◌∷◌, ◌++◌, length, get_or, take, drop, sym, refl, ap, ◌∙◌, subst, ⊎_elim, arith, length-append, length-drop, drop-drop}
+use Rattle.std.proofs.Common.{◌≡◌, ℕ, zero, suc, ◌+◌, ◌*◌, ◌/◌, ◌%◌, ◌<◌, ◌≤◌, Bool, true, false, cond, List, [], ◌∷◌, ◌++◌, length, get_or, take, drop, sym, refl, ap, ◌∙◌, ⊎_elim, arith, length-append, drop-drop}
 use Rattle.std.proofs.lemmas.List.{get_or_append_left, get_or_at, get_or_past, take_at, take_all, drop_at, drop_all}
 use Rattle.std.proofs.lemmas.Bool.{cases_lt, cases_eq, eqb-true}
 use Rattle.boards.specs.Boards.{member, one, only, place, size, tally}
 use Rattle.boards.proofs.Members.{member_below, member_only}
 use Rattle.boards.proofs.Counts.{tally_rises}
 use Rattle.boards.proofs.Sets.{size_only, place_below}
-use Rattle.wire.specs.declared.message.Entry.{Entry}
-use Rattle.wire.specs.Messages.{Reply, listed, joined, tag_bytes, stored_tags, reply_at, replies_in, heard_replies, none}
+use Rattle.wire.specs.Messages.{Reply, listed, joined, tag_bytes, stored_tags, reply_at, replies_in, heard_replies}
 use Rattle.wire.specs.Acts.{no_reply, tag_at}
 
 long_cond : {X : Type 0} (b : Bool) (x : X) → length (cond b (x ∷ []) []) ≡ one b

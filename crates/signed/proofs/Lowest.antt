@@ -1,6 +1,6 @@
 -- The lowest of replies found from the last to the first.
 -- `onto` is the lowest of replies and of an entry found behind them; a loop moves replies from the list into that entry.
-use Rattle.std.proofs.Common.{◌≡◌, ℕ, zero, suc, ◌-◌, ◌*◌, ◌<◌, ◌≤◌, Bool, true, false, cond, List, [], ◌∷◌, ◌++◌, sym, refl, ap, ◌∙◌, arith}
+use Rattle.std.proofs.Common.{◌≡◌, ℕ, suc, ◌-◌, ◌*◌, ◌<◌, ◌≤◌, Bool, true, false, cond, List, [], ◌∷◌, ◌++◌, sym, refl, ap, ◌∙◌, arith}
 use Rattle.wire.specs.declared.message.Entry.{Entry}
 use Rattle.wire.specs.Messages.{Reply, listed, replies_in, reply_at, none}
 use Rattle.wire.specs.Acts.{lower, lowest}

@@ -1,9 +1,8 @@
 -- Bytes as words: a number of eight bytes or fewer, and a message cut into blocks.
 -- Lemmas on lists for `key_words`, `number` and `absorb`.
-use Rattle.std.proofs.Common.{◌≡◌, ℕ, zero, suc, ◌+◌, ◌-◌, ◌*◌, ◌/◌, ◌^◌, ◌<◌, ◌≤◌, List, [], ◌∷◌, ◌++◌, map, length, get_or, take, drop, set, replicate, sym, refl, ap, ◌∙◌, append_assoc, pow-suc, arith, length-append, length-drop}
+use Rattle.std.proofs.Common.{◌≡◌, ℕ, zero, suc, ◌+◌, ◌-◌, ◌*◌, ◌/◌, ◌^◌, ◌<◌, ◌≤◌, List, [], ◌∷◌, ◌++◌, map, length, get_or, take, drop, set, replicate, sym, refl, ap, ◌∙◌, append_assoc, pow-suc, arith, length-drop}
 use native.Mathlib.Nat.{one-le-pow}
-use lib.ListN.{length-replicate}
-use Rattle.std.proofs.lemmas.List.{drop_more, drop_all, take_more, set_at, take_all, replicate_more, length-take-le}
+use Rattle.std.proofs.lemmas.List.{drop_more, drop_all, take_more, set_at, take_all, length-take-le}
 use Rattle.std.specs.Simd.{first_chunks}
 use Rattle.siphash.specs.SipHash.{little, compress, compressed}
 use Rattle.siphash.specs.declared.State.{State}

@@ -1,6 +1,6 @@
 -- What it means that a published vector agrees with a hash.
 -- A vector has the length of its message and the result twice, as eight bytes and as a number.
-use Rattle.std.specs.Prelude.{◌≡◌, ℕ, ◌≤◌, Bool, false, cond, ◌&&◌, List, length, take, ◌==◌, nat_le}
+use Rattle.std.specs.Prelude.{ℕ, Bool, ◌&&◌, List, length, take, ◌==◌, nat_le}
 use Rattle.siphash.specs.SipHash.{siphash_2_4}
 use Rattle.vectors.specs.declared.Vector.{Vector}
 

@@ -2,7 +2,7 @@
 -- A lower ready replaces a higher one, and a new view keeps nothing.
 use Rattle.std.proofs.Common.{◌≡◌, ℕ, ◌+◌, ◌<◌, ◌≤◌, None, Option, sym, refl, ap, ◌∙◌, subst, inl, inr, ⊎_elim, arith}
 use Rattle.row.specs.declared.state.Kept.{Kept}
-use Rattle.views_agree.proofs.Deeds.{Vote, rank, level, kept_of, kept_after, More}
+use Rattle.views_agree.proofs.Deeds.{Vote, level, kept_of, kept_after, More}
 use Rattle.views_agree.proofs.Floor.{Ranked, Floor, above_floor, reached}
 
 abbrev pub Keeps : ℕ → Option Kept → (ℕ → Vote → Type 0) → Type 0

@@ -2,7 +2,7 @@
 -- Only what the argument rests on is drawn from the lists; a tag's being good is no part of it.
 use Rattle.std.proofs.Common.{◌≡◌, ℕ, ◌<◌, Bool, true, false, cond, not, ◌&&◌, ◌||◌, eqb, leb, Some, None, Option, refl, ⊎_elim, arith}
 use Rattle.std.proofs.lemmas.Bool.{or_parts, and_cases, not-false, eqb-true, eqb-false, leb-false, both_ways}
-use Rattle.boards.specs.Boards.{member, size, Within}
+use Rattle.boards.specs.Boards.{member, Within}
 use Rattle.codes.specs.declared.Refusal.{Refusal}
 use Rattle.wire.specs.Messages.{Msg, view_of}
 use Rattle.row.specs.declared.state.State.{State}

@@ -1,6 +1,6 @@
 -- The boards agree on their views: over whole histories of calls at eight rows, what is assumed and what then holds.
 -- A step of a history is what the call's own contract promises; how a row works is said nowhere again. Told in docs/AGREEMENT.md.
-use Rattle.std.specs.Prelude.{◌≡◌, ℕ, ◌+◌, ◌<◌, ◌≤◌, true, false, ◌⊎◌, List, [], ◌∷◌, ◌++◌, length, set, Ok, Err, Option, Result, bit_and, slice_index_or, slice_set}
+use Rattle.std.specs.Prelude.{◌≡◌, ℕ, ◌+◌, ◌<◌, ◌≤◌, true, false, ◌⊎◌, List, [], ◌∷◌, ◌++◌, length, Ok, Err, Option, Result, bit_and, slice_index_or, slice_set}
 use Rattle.boards.specs.Boards.{member, size}
 use Rattle.codes.specs.declared.Refusal.{Refusal}
 use Rattle.views.specs.Shares.{share}

@@ -1,12 +1,11 @@
 -- What a message says that a row takes: its fields are in range, there is room for the answer, and the scheme is not spent.
 -- One lemma a kind; what the kinds share comes first.
-use Rattle.std.proofs.Common.{◌≡◌, ℕ, ◌+◌, ◌-◌, ◌*◌, ◌^◌, ◌<◌, ◌≤◌, Bool, true, false, not, ◌&&◌, ◌||◌, eqb, ltb, List, [], length, sym, refl, ap, ◌∙◌, subst, arith}
-use Rattle.std.proofs.lemmas.Bool.{and_parts, both_ways, eqb-true, leb-true, ltb-false, not-false, or_parts}
-use Rattle.boards.specs.Boards.{member, size, place}
+use Rattle.std.proofs.Common.{◌≡◌, ℕ, ◌-◌, ◌*◌, ◌<◌, ◌≤◌, Bool, false, not, ◌||◌, List, [], length, sym, refl, subst, arith}
+use Rattle.std.proofs.lemmas.Bool.{eqb-true, ltb-false, not-false, or_parts}
+use Rattle.boards.specs.Boards.{size, place}
 use Rattle.boards.proofs.Sets.{place_below}
-use Rattle.grammar.specs.Grammar.{from_to}
 use Rattle.grammar.proofs.Held.{held}
-use Rattle.views.specs.Shares.{share, quorum}
+use Rattle.views.specs.Shares.{quorum}
 use Rattle.views.proofs.Rule.{quorum_above}
 use Rattle.schemes.specs.declared.Scheme.{Ghosts}
 use Rattle.checks.specs.Checks.{genuine}
@@ -15,8 +14,7 @@ use Rattle.wire.specs.declared.message.Tags.{Tags}
 use Rattle.wire.specs.declared.message.Message.{Message}
 use Rattle.wire.specs.declared.message.Message.TheVariants.{Proposal, Query}
 use Rattle.wire.specs.Messages.{Msg, Reply, meaning}
-use Rattle.wire.specs.Format.{Formed}
-use Rattle.wire.specs.Acts.{Act, lowest, tag_at}
+use Rattle.wire.specs.Acts.{Act, lowest}
 use Rattle.wire.proofs.Signs.{lowest_fits}
 use Rattle.wire.proofs.Spelt.{between}
 use Rattle.row.specs.declared.state.State.{State}
@@ -25,7 +23,6 @@ use Rattle.row.specs.declared.state.Sent.{Sent}
 use Rattle.row.specs.States.{group, many, inside, with_voter, with_floor}
 use Rattle.row.specs.Effects.{Effect, Outcome, readies, tells, heard}
 use Rattle.sending.specs.Sends.{Did}
-use Rattle.row.specs.Refusals.{answered, stranger, misfit}
 use Rattle.sending.proofs.Numbers.{tag_at_long}
 use Rattle.admission.proofs.Early.{Passed, passed}
 use Rattle.voting.specs.Votes.{Taken, WholeTags, keeping, heard_count}

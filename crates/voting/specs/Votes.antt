@@ -9,7 +9,6 @@ use Rattle.wire.specs.Messages.{Msg}
 use Rattle.wire.specs.Format.{Formed}
 use Rattle.row.specs.declared.state.State.{State}
 use Rattle.row.specs.declared.state.Count.{Count}
-use Rattle.row.specs.declared.state.Kept.{Kept}
 use Rattle.row.specs.declared.state.Voter.{Voter}
 use Rattle.row.specs.States.{the_set, kept_entry}
 use Rattle.row.specs.Refusals.{answered, hear_refusal}

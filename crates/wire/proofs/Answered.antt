@@ -1,22 +1,19 @@
 -- The laws of the bytes of messages: the laws of every grammar, at the format of messages.
 -- `stands` takes a message's bytes to its fields, and `message_of` takes bytes that stand back to the message.
-use Rattle.std.proofs.Common.{◌≡◌, ℕ, zero, suc, ◌+◌, ◌*◌, ◌/◌, ◌<◌, ◌≤◌, Bool, ◌⊎◌, List, [], ◌∷◌, ◌++◌, length, take, drop, Ok, Err, Result, sym, refl, ap, ◌∙◌, subst, inl, inr, ⊎_elim, zero-add, arith, length-append, take-append-drop, length-take-le, take_at, drop_at}
-use lib.Seq.{take-nil, take-append-add}
-use Rattle.std.specs.List.{AllByRecursion}
-use Rattle.std.proofs.lemmas.List.{append_assoc, append_cancel_left}
+use Rattle.std.proofs.Common.{◌≡◌, ℕ, ◌+◌, ◌*◌, ◌/◌, ◌<◌, Bool, ◌⊎◌, List, [], ◌++◌, length, take, drop, Ok, Err, Result, sym, refl, ap, ◌∙◌, subst, inl, inr, ⊎_elim, arith, length-append, take-append-drop, take_at}
 use Rattle.std.proofs.ByRecursion.{All-take}
 use Rattle.std.proofs.lemmas.Bool.{cases_lt}
-use Rattle.grammar.specs.declared.fault.Layer.TheVariants.{Bytes, Field}
+use Rattle.grammar.specs.declared.fault.Layer.TheVariants.{Bytes}
 use Rattle.grammar.specs.declared.fault.Fault.{Fault}
-use Rattle.grammar.specs.Bits.{bits, bits_of}
+use Rattle.grammar.specs.Bits.{bits}
 use Rattle.grammar.specs.Grammar.{Grammar, Item, After, Stands, First, Left, fault, spell}
-use Rattle.grammar.proofs.Bits.{length_bits, length_bits_of, bits_append, bits_take}
+use Rattle.grammar.proofs.Bits.{length_bits, bits_append, bits_take}
 use Rattle.grammar.proofs.Lawful.{one_or_other, single}
 use Rattle.grammar.proofs.Cuts.{cut, over, over_or_short, field_fault}
 use Rattle.wire.specs.Messages.{Msg}
 use Rattle.wire.specs.Format.{message, Formed, form, values, packed}
 use Rattle.wire.specs.Reads.{ByteList, Reads}
-use Rattle.wire.specs.Acts.{Act, Allowed, words, signed, signed_values}
+use Rattle.wire.specs.Acts.{words, signed, signed_values}
 use Rattle.wire.specs.Laws.{OneAnswer, RoundTrip, CutShort, TooLong, LeftOver, FieldRefused, WordsTell, SignedAllowed}
 use Rattle.wire.proofs.Packed.{packed_is, packed_fit}
 use Rattle.wire.proofs.Widths.{whole, whole_words}

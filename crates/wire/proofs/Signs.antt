@@ -1,6 +1,6 @@
 -- What a formed message signs is allowed: the act behind each board's tag, and the act behind its proof.
 -- The words of an allowed act have 2 to 52 bytes.
-use Rattle.std.proofs.Common.{◌≡◌, ℕ, zero, suc, ◌+◌, ◌*◌, ◌/◌, ◌^◌, ◌<◌, ◌≤◌, max, Bool, true, false, cond, eqb, ltb, leb, ◌⊎◌, List, [], ◌∷◌, ◌++◌, length, get_or, sym, refl, ap, ◌∙◌, subst, inl, inr, ⊎_elim, arith}
+use Rattle.std.proofs.Common.{◌≡◌, ℕ, zero, suc, ◌^◌, ◌<◌, ◌≤◌, max, true, false, cond, eqb, ltb, leb, ◌⊎◌, List, [], ◌∷◌, ◌++◌, length, get_or, refl, ap, ◌∙◌, subst, inl, inr, ⊎_elim, arith}
 use Rattle.std.specs.List.{AllByRecursion}
 use Rattle.std.proofs.ByRecursion.{All-get_or}
 use Rattle.std.proofs.lemmas.Bool.{and_parts, and_from, leb-true, le-leb, eqb-true, eqb-false, ne_eqb, cond_both, cond-false, cases_lt, both_ways}
@@ -12,10 +12,10 @@ use Rattle.boards.proofs.Sets.{place_below, size_zero}
 use Rattle.wire.specs.declared.message.Sort.{Sort}
 use Rattle.wire.specs.declared.message.Sort.TheVariants.{Report, End}
 use Rattle.wire.specs.declared.message.Entry.{Entry}
-use Rattle.wire.specs.Fields.{entered, entries, proof}
+use Rattle.wire.specs.Fields.{entries, proof}
 use Rattle.wire.specs.Messages.{Msg, Reply, none, sort_number}
-use Rattle.wire.specs.Format.{values, Formed, opening, body, message, replies_values, set_values}
-use Rattle.wire.specs.Acts.{Act, signed, signed_bodies, signed_values, lone_kind, words, Allowed, signers, act_of, no_reply, lower, lowest, proof_of, proved_act}
+use Rattle.wire.specs.Format.{Formed, opening, body, message, replies_values, set_values}
+use Rattle.wire.specs.Acts.{Act, signed, signed_bodies, lone_kind, words, Allowed, signers, act_of, no_reply, lower, lowest, proof_of, proved_act}
 use Rattle.wire.proofs.Widths.{length_words}
 
 -- From a kind of message to the lone kind signed in it: kind and view carry over, and what follows them by `on`.

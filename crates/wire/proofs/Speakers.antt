@@ -1,10 +1,10 @@
 -- A set of just one board tells the board.
 -- `speaker` undoes `only` for the eight boards, and each set of one board is `only` of its speaker.
-use Rattle.std.proofs.Common.{◌≡◌, ℕ, ◌<◌, ◌≤◌, Bool, true, false, cond, eqb, ltb, sym, refl, ap, ◌∙◌, subst, ⊎_elim, arith}
+use Rattle.std.proofs.Common.{◌≡◌, ℕ, ◌<◌, true, cond, eqb, ltb, sym, refl, ap, ◌∙◌, ⊎_elim, arith}
 use Rattle.std.proofs.lemmas.Bool.{cases_lt, cases_Bool, both_ways, eq-eqb, ne_eqb, eqb-true, ltb-true}
-use Rattle.boards.specs.Boards.{member, only, every, size, place}
+use Rattle.boards.specs.Boards.{member, only, every, size}
 use Rattle.boards.proofs.Chosen.{every_at}
-use Rattle.boards.proofs.Members.{member_only, member_below, only_above, same_set}
+use Rattle.boards.proofs.Members.{member_only, only_above, same_set}
 use Rattle.boards.proofs.Sets.{size_none, place_some, place_below, same_place}
 use Rattle.wire.specs.Fields.{lone}
 

@@ -1,15 +1,13 @@
 -- Fields that the format allows are those of a message: nothing stands by the format that is no message.
 -- One lemma for each part of the format says what items of that part look like; the thirteen kinds put them together.
-use Rattle.std.proofs.Common.{◌≡◌, ℕ, zero, suc, ◌+◌, ◌*◌, ◌^◌, ◌<◌, ◌≤◌, max, Bool, true, false, cond, eqb, leb, List, [], ◌∷◌, ◌++◌, length, get_or, sym, refl, ap, ◌∙◌, subst, ⊎_elim, arith}
-use Rattle.std.proofs.lemmas.List.{append_assoc}
+use Rattle.std.proofs.Common.{◌≡◌, ℕ, zero, suc, ◌*◌, ◌<◌, ◌≤◌, max, Bool, true, leb, List, [], ◌∷◌, ◌++◌, length, sym, refl, ap, ◌∙◌, subst, ⊎_elim, arith}
 use Rattle.std.proofs.lemmas.Bool.{and_parts, leb-true, cases_eq}
 use Rattle.grammar.specs.Grammar.{Grammar, Item, After, from_to}
 use Rattle.grammar.proofs.Held.{first_num, first_raw, no_more}
 use Rattle.boards.specs.Boards.{only, size}
 use Rattle.wire.specs.declared.message.Sort.{Sort}
 use Rattle.wire.specs.declared.message.Sort.TheVariants.{Report, End}
-use Rattle.wire.specs.declared.message.Entry.{Entry}
-use Rattle.wire.specs.Fields.{view, zeros, rank, change, graded, carried, lone, lone_tag, own_tag, tagged, entered, entries, proof}
+use Rattle.wire.specs.Fields.{zeros, rank, change, graded, carried, lone_tag, own_tag, entered, entries, proof}
 use Rattle.wire.specs.Messages.{Msg, Reply, sort_number}
 use Rattle.wire.specs.Format.{message, body, values, opening, graded_values, content_values, set_values, reply_values, replies_values}
 use Rattle.wire.proofs.Speakers.{speaker, lone_is}

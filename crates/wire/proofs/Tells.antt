@@ -1,13 +1,11 @@
 -- The fields of a message tell the message: two formed messages with the same fields are the same; acts likewise.
 -- `told` reads a message back off its fields by their place in the list; it knows no bits.
-use Rattle.std.proofs.Common.{◌≡◌, ℕ, zero, suc, ◌+◌, ◌-◌, ◌*◌, ◌/◌, ◌<◌, ◌≤◌, Bool, true, false, cond, eqb, List, [], ◌∷◌, ◌++◌, length, get_or, take, drop, sym, refl, ap, ◌∙◌, arith, length-append, drop_at}
-use Rattle.grammar.specs.Grammar.{Grammar, Item, After}
+use Rattle.std.proofs.Common.{◌≡◌, ℕ, zero, suc, ◌-◌, ◌*◌, ◌/◌, ◌<◌, List, [], ◌∷◌, ◌++◌, length, get_or, drop, sym, refl, ap, ◌∙◌, arith, length-append, drop_at}
+use Rattle.grammar.specs.Grammar.{Item}
 use Rattle.grammar.proofs.Held.{held}
-use Rattle.boards.specs.Boards.{only}
 use Rattle.wire.specs.declared.message.Sort.{Sort}
 use Rattle.wire.specs.declared.message.Sort.TheVariants.{Report, End}
-use Rattle.wire.specs.declared.message.Entry.{Entry}
-use Rattle.wire.specs.Messages.{Msg, Reply, none, sort_number}
+use Rattle.wire.specs.Messages.{Msg, Reply, sort_number}
 use Rattle.wire.specs.Format.{values, Formed, replies_values, set_values}
 use Rattle.wire.specs.Acts.{Act, signed_values}
 use Rattle.wire.proofs.Speakers.{speaker, speaker_only, lone_below}

@@ -1,13 +1,12 @@
 -- How wide messages and the words of acts are: always whole bytes, so that packing loses nothing.
 -- One count of bits, `wide`, for all items; messages and acts differ only in which items they have.
-use Rattle.std.proofs.Common.{◌≡◌, ℕ, ◌+◌, ◌*◌, ◌/◌, ◌%◌, ◌<◌, ◌≤◌, List, [], ◌∷◌, ◌++◌, length, sym, refl, ap, ◌∙◌, add_assoc, arith, length-append}
+use Rattle.std.proofs.Common.{◌≡◌, ℕ, ◌+◌, ◌*◌, ◌/◌, ◌%◌, List, [], ◌∷◌, ◌++◌, length, refl, ap, ◌∙◌, arith, length-append}
 use Rattle.grammar.specs.Bits.{bits, bits_of}
-use Rattle.grammar.specs.Grammar.{Grammar, Item, After, spell}
+use Rattle.grammar.specs.Grammar.{Item, spell}
 use Rattle.grammar.proofs.Bits.{length_bits, length_bits_of}
-use Rattle.grammar.proofs.Held.{held}
 use Rattle.wire.specs.Messages.{Msg, Reply}
-use Rattle.wire.specs.Format.{values, form, packed, replies_values}
-use Rattle.wire.specs.Acts.{Act, signed_values, words, Allowed}
+use Rattle.wire.specs.Format.{values, form, replies_values}
+use Rattle.wire.specs.Acts.{Act, signed_values, words}
 use Rattle.wire.proofs.Packed.{packed_whole, length_packed}
 
 -- How many bits items have.

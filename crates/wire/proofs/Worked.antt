@@ -1,9 +1,8 @@
 -- The examples: what they say of given bytes is computed, and what they say of any payload or message follows from the laws.
 -- A fault of given bytes is the outcome of the grammar, which computes.
-use Rattle.std.proofs.Common.{◌≡◌, ℕ, ◌+◌, ◌*◌, ◌/◌, ◌<◌, List, [], ◌∷◌, ◌++◌, length, Ok, Err, sym, refl, ap, ◌∙◌, subst, arith}
-use Rattle.std.specs.List.{AllByRecursion}
+use Rattle.std.proofs.Common.{◌≡◌, ℕ, ◌*◌, List, [], ◌∷◌, ◌++◌, length, Err, sym, refl, ap, ◌∙◌, subst, arith}
 use Rattle.std.proofs.lemmas.List.{append-nil}
-use Rattle.boards.specs.Boards.{member, only, size, tally}
+use Rattle.boards.specs.Boards.{member, size, tally}
 use Rattle.grammar.specs.declared.fault.Layer.TheVariants.{Bytes, Field}
 use Rattle.grammar.specs.declared.fault.Fault.{Fault}
 use Rattle.grammar.specs.Bits.{bits, bits_of, number_of, bytes_of}
@@ -12,11 +11,11 @@ use Rattle.grammar.proofs.Held.{held}
 use Rattle.grammar.proofs.Lawful.{faults}
 use Rattle.wire.specs.declared.message.Sort.TheVariants.{Report}
 use Rattle.wire.specs.Fields.{lone}
-use Rattle.wire.specs.Messages.{Msg, listed, none}
+use Rattle.wire.specs.Messages.{Msg, listed}
 use Rattle.wire.specs.Format.{message, Formed, form, packed}
 use Rattle.wire.specs.Reads.{ByteList, Reads}
 use Rattle.wire.specs.Acts.{Act, words, signed_values}
-use Rattle.wire.specs.Examples.{Examples, kept}
+use Rattle.wire.specs.Examples.{Examples}
 use Rattle.wire.proofs.Packed.{packed_is}
 use Rattle.wire.proofs.Widths.{length_form}
 use Rattle.wire.proofs.Answered.{too_long}

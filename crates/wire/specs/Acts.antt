@@ -1,6 +1,6 @@
 -- Acts: what a board signs. Each tag in a message stands for an act of its board, and the words of an act are the bytes signed for it.
 -- A message that gathers many boards' tags has the words of the lone kind it gathers.
-use Rattle.std.specs.Prelude.{◌≡◌, ℕ, zero, suc, ◌*◌, Bool, true, false, cond, ◌||◌, List, [], ◌∷◌, ◌++◌, length, get_or, take, drop, Some, None, Option, ◌==◌, nat_lt, slice_index_or}
+use Rattle.std.specs.Prelude.{ℕ, ◌*◌, Bool, cond, ◌||◌, List, [], ◌∷◌, get_or, take, drop, ◌==◌, nat_lt, slice_index_or}
 use Rattle.boards.specs.Boards.{place, only}
 use Rattle.grammar.specs.Bits.{bits, number_of}
 use Rattle.grammar.specs.Grammar.{Grammar, Item, After, from_to}

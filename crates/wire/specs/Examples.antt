@@ -1,6 +1,6 @@
 -- Bytes worked out by hand: a set, the words of acts, and what some bytes are.
 -- A reader checks these against docs/FRAMES.md; the function `examples_stand` carries them all.
-use Rattle.std.specs.Prelude.{◌≡◌, ℕ, List, [], ◌∷◌, ◌++◌, length, Ok, Err}
+use Rattle.std.specs.Prelude.{◌≡◌, ℕ, List, [], ◌∷◌, ◌++◌, length, Err}
 use Rattle.boards.specs.Boards.{member, size}
 use Rattle.grammar.specs.declared.fault.Layer.TheVariants.{Bytes, Field}
 use Rattle.grammar.specs.Grammar.{fault}

@@ -1,8 +1,8 @@
 -- The format: the table of the thirteen kinds, and the bytes that spell a message.
 -- A reader holds the table against docs/FRAMES.md line by line.
-use Rattle.std.specs.Prelude.{◌≡◌, ℕ, ◌/◌, ◌<◌, ◌≤◌, List, [], ◌∷◌, ◌++◌, length, slice_index_or}
+use Rattle.std.specs.Prelude.{ℕ, ◌/◌, List, [], ◌∷◌, ◌++◌, length, slice_index_or}
 use Rattle.boards.specs.Boards.{size, only}
-use Rattle.grammar.specs.Bits.{bits, bytes_of}
+use Rattle.grammar.specs.Bits.{bytes_of}
 use Rattle.grammar.specs.Grammar.{Grammar, Item, After, from_to, spell}
 use Rattle.wire.specs.declared.message.Sort.{Sort}
 use Rattle.wire.specs.Fields.{view, zeros, rank, change, carried, lone, lone_tag, own_tag, tagged, entered, entries, proof, graded}

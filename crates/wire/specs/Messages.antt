@@ -1,6 +1,6 @@
 -- Messages as plain data, and what the program's values mean: where bytes lie, heard, stored or fresh, is no part of a message.
 -- Numbers stand for themselves, a set for its byte, tags for their bytes in rising board number, eight a board.
-use Rattle.std.specs.Prelude.{ℕ, zero, suc, ◌+◌, ◌*◌, ◌/◌, ◌%◌, ◌^◌, Bool, true, false, cond, List, [], ◌∷◌, ◌++◌, length, take, drop, slice_index, slice_index_or}
+use Rattle.std.specs.Prelude.{ℕ, zero, suc, ◌+◌, ◌*◌, ◌/◌, ◌%◌, ◌^◌, Bool, cond, List, [], ◌∷◌, ◌++◌, length, take, drop, slice_index, slice_index_or}
 use Rattle.boards.specs.Boards.{member, only}
 use Rattle.wire.specs.declared.message.Sort.{Sort}
 use Rattle.wire.specs.declared.message.Sort.TheVariants.{Report, End}

@@ -1,6 +1,6 @@
 -- Heads of signed words, built field by field: one more field, and how wide the head is then.
 -- A chain of steps is the proof of each shape of head.
-use Rattle.std.proofs.Common.{◌≡◌, ℕ, ◌+◌, ◌≤◌, Bool, List, [], ◌∷◌, ◌++◌, sym, refl, ap, ◌∙◌, arith}
+use Rattle.std.proofs.Common.{◌≡◌, ℕ, ◌+◌, ◌≤◌, Bool, List, [], ◌∷◌, ◌++◌, ap, ◌∙◌, arith}
 use Rattle.grammar.specs.Grammar.{Grammar, Item}
 use Rattle.head.specs.declared.number.Head.{Head}
 use Rattle.head.specs.Heads.{Holds, Joined}

@@ -1,16 +1,15 @@
 -- Words put together: their bits are those of the head's fields and then of the payload, so they are the words of the act.
 -- Where a field is not allowed or the payload is too long, the act is not allowed either.
-use Rattle.std.proofs.Common.{◌≡◌, ℕ, ◌+◌, ◌-◌, ◌*◌, ◌/◌, ◌%◌, ◌<◌, ◌≤◌, Bool, true, false, ◌⊎◌, List, [], ◌∷◌, ◌++◌, length, take, drop, sym, refl, ap, ◌∙◌, subst, inl, inr, ⊎_elim, zero-add, arith, length-append, length-take-le, take_at, drop_at}
-use Rattle.std.specs.List.{AllByRecursion}
+use Rattle.std.proofs.Common.{◌≡◌, ℕ, ◌+◌, ◌-◌, ◌*◌, ◌/◌, ◌%◌, ◌<◌, ◌≤◌, Bool, true, false, ◌⊎◌, List, [], ◌∷◌, ◌++◌, length, take, drop, sym, refl, ap, ◌∙◌, subst, inr, ⊎_elim, zero-add, arith, length-append, take_at}
 use Rattle.std.proofs.lemmas.List.{append_assoc, append-nil}
 use Rattle.std.proofs.ByRecursion.{All-take, All-append}
 use Rattle.grammar.specs.Bits.{bits, bits_of}
 use Rattle.grammar.specs.Grammar.{Grammar, Item, After, spell}
-use Rattle.grammar.proofs.Bits.{length_bits, length_bits_of, bits_take, bits_append}
+use Rattle.grammar.proofs.Bits.{length_bits_of, bits_take, bits_append}
 use Rattle.grammar.proofs.Cuts.{spell_append}
 use Rattle.grammar.proofs.Held.{held, onward, front_after}
 use Rattle.head.specs.declared.number.Head.{Head}
-use Rattle.head.specs.Heads.{Goes, Holds, BytesOf}
+use Rattle.head.specs.Heads.{Goes, BytesOf}
 use Rattle.wire.specs.declared.message.Content.{Content}
 use Rattle.wire.specs.Reads.{ByteList}
 use Rattle.wire.specs.Acts.{Act, Allowed, words, signed, signed_values}

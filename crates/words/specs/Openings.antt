@@ -6,7 +6,7 @@ use Rattle.head.specs.declared.number.Head.{Head}
 use Rattle.head.specs.Heads.{Holds}
 use Rattle.wire.specs.declared.message.Content.{Content}
 use Rattle.wire.specs.declared.message.Sort.{Sort}
-use Rattle.wire.specs.Fields.{zeros, change, graded, rank, carried}
+use Rattle.wire.specs.Fields.{graded, rank, carried}
 use Rattle.wire.specs.Messages.{sort_number}
 use Rattle.wire.specs.Format.{opening, graded_values}
 use Rattle.wire.specs.Acts.{Act, signed, signed_bodies, signed_values, lone_kind}

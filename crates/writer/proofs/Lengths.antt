@@ -1,6 +1,6 @@
 -- How long a layout is, part by part.
 -- The sum as the code has it, and the parts in order.
-use Rattle.std.proofs.Common.{◌≡◌, ℕ, ◌+◌, ◌*◌, ◌/◌, List, [], ◌∷◌, ◌++◌, length, sym, refl, ap, ◌∙◌, subst, arith, length-append}
+use Rattle.std.proofs.Common.{◌≡◌, ◌+◌, ◌/◌, [], ◌∷◌, ◌++◌, length, ◌∙◌, arith, length-append}
 use Rattle.std.proofs.lemmas.List.{append_assoc}
 use Rattle.wire.specs.Messages.{tags_of}
 use Rattle.layout.specs.declared.plan.Layout.{Layout}

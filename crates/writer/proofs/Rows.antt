@@ -1,8 +1,8 @@
 -- Tags and replies put board by board.
 -- One more at a member, none at any other board.
-use Rattle.std.proofs.Common.{◌≡◌, ℕ, suc, ◌+◌, ◌*◌, ◌<◌, ◌≤◌, Bool, true, false, cond, List, [], ◌∷◌, ◌++◌, length, get_or, sym, refl, ap, ◌∙◌, subst, add-one, arith}
+use Rattle.std.proofs.Common.{◌≡◌, ℕ, ◌+◌, ◌*◌, true, false, cond, List, [], ◌∷◌, ◌++◌, length, get_or, sym, refl, ap, ◌∙◌, add-one}
 use Rattle.std.proofs.lemmas.List.{append_assoc, append-nil}
-use Rattle.boards.specs.Boards.{member, size, place}
+use Rattle.boards.specs.Boards.{member, place}
 use Rattle.wire.specs.declared.message.Entries.{Entries}
 use Rattle.wire.specs.Messages.{Reply, listed, joined, tag_bytes}
 use Rattle.layout.specs.Measures.{reply_of}

@@ -1,6 +1,6 @@
 -- A byte with the boards of a set and one more is that set with the board put in.
 -- From the law of `insert`.
-use mathlib.Core.Path.{◌≡◌, sym, ap, subst, ◌∙◌}
+use mathlib.Core.Path.{ap, subst, ◌∙◌}
 use Prim.Native.Nat.{◌<◌}
 use Rattle.row.specs.States.{insert}
 use Rattle.row.proofs.Picked.{insert_is}

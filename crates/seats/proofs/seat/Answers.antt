@@ -1,6 +1,6 @@
 -- The board of a rank is the one that holds it; past the ranks there is none.
 -- From the laws of `seat`.
-use mathlib.Core.Path.{◌≡◌, sym, ap, ◌∙◌}
+use mathlib.Core.Path.{sym, ap, ◌∙◌}
 use native.Mathlib.Omega.{arith}
 use Rattle.boards.specs.Boards.{only}
 use Rattle.boards.proofs.Members.{only_above}

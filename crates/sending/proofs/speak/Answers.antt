@@ -1,6 +1,6 @@
 -- A board that can speak does: its message is formed whatever the tag, and there is room for it.
 -- Each way out that sends nothing is one that such a board does not come to.
-use Rattle.std.proofs.Common.{◌≡◌, false, sym, refl, subst, arith}
+use Rattle.std.proofs.Common.{false, sym, refl, subst}
 use Rattle.std.proofs.lemmas.Bool.{both_ways}
 use Rattle.wire.specs.Format.{Formed}
 use Rattle.wire.specs.Messages.{stored_tags, tag_bytes}

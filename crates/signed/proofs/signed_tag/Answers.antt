@@ -1,6 +1,6 @@
 -- The signer of a last is its speaker.
 -- All other needs are closed by the search.
-use Rattle.std.proofs.Common.{◌≡◌, true, ap, ◌∙◌, subst}
+use Rattle.std.proofs.Common.{◌≡◌, true, subst}
 use Rattle.boards.specs.Boards.{member}
 use Rattle.wire.specs.Messages.{meaning}
 use Rattle.wire.specs.Acts.{signers}

@@ -1,6 +1,6 @@
 -- All words of a message: each whole word is taken in, then the last.
 -- The blocks are those that the definition cuts.
-use Rattle.std.proofs.Common.{◌≡◌, ℕ, ◌+◌, ◌*◌, ◌/◌, ◌<◌, ◌≤◌, List, [], ◌∷◌, ◌++◌, map, length, get_or, drop, sym, ap, ◌∙◌, mul_comm, arith}
+use Rattle.std.proofs.Common.{◌≡◌, ◌+◌, ◌*◌, ◌/◌, ◌<◌, [], map, length, get_or, drop, sym, ap, ◌∙◌, mul_comm, arith}
 use Rattle.std.specs.Simd.{first_chunks}
 use Rattle.siphash.specs.SipHash.{little, compress, compressed, last_word, parsed}
 use Rattle.siphash.proofs.Words.{little_eight, chunk_long, compressed_more, compressed_all, compressed_push}

@@ -1,9 +1,9 @@
 -- At most seven bytes as a number: one byte more in the block, and null bytes that add nothing.
 -- Both are lemmas on lists.
-use Rattle.std.proofs.Common.{◌≡◌, ℕ, ◌-◌, ◌^◌, ◌<◌, ◌++◌, length, get_or, set, replicate, sym, ap, ◌∙◌, subst, arith, length-set}
+use Rattle.std.proofs.Common.{◌≡◌, ℕ, ◌-◌, ◌^◌, ◌<◌, ◌++◌, get_or, set, replicate, sym, ap, ◌∙◌, subst, arith, length-set}
 use Rattle.std.proofs.lemmas.List.{take_all}
 use Rattle.siphash.specs.SipHash.{little}
-use Rattle.siphash.proofs.Words.{begun, little_eight, little_zeros, little_below, begun_more}
+use Rattle.siphash.proofs.Words.{little_eight, little_zeros, little_below, begun_more}
 use Rattle.siphash.proofs.number.Goals as goal
 
 pub loop-i-preserved : goal.loop-i-preserved

@@ -1,6 +1,6 @@
 -- The certificate is formed and short, and what the leader was told stays.
 -- From the laws of certificates.
-use Rattle.std.proofs.Common.{◌≡◌, ◌≤◌, sym, ◌∙◌, subst, arith}
+use Rattle.std.proofs.Common.{◌≤◌, sym, ◌∙◌, subst, arith}
 use Rattle.sending.proofs.Certificates.{Certified, certified_proposal}
 use Rattle.counting.proofs.counts.ack.Goals as goal
 

@@ -1,6 +1,6 @@
 -- The tag of a speaker is the number of its bytes.
 -- It stands alone in the message.
-use Rattle.std.proofs.Common.{◌≡◌, ◌^◌, ◌<◌, sym, ◌∙◌, rules}
+use Rattle.std.proofs.Common.{◌^◌, ◌<◌, sym, ◌∙◌, rules}
 use Rattle.wire.specs.Messages.{meaning}
 use Rattle.sending.proofs.Numbers.{number_is}
 use Rattle.counting.specs.Counts.{own_tag}

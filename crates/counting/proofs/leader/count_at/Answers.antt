@@ -1,6 +1,6 @@
 -- A place before the end of the table has its count, whatever stands past the end.
 -- The table has twelve places.
-use Rattle.std.proofs.Common.{◌≡◌, ◌<◌, [], length, get_or, ◌∙◌, rules}
+use Rattle.std.proofs.Common.{◌<◌, [], length, get_or, ◌∙◌, rules}
 use Rattle.std.proofs.lemmas.List.{get_or_default}
 use Rattle.row.specs.declared.state.Count.{Count}
 use Rattle.row.specs.States.{no_count, the_set}

@@ -5,7 +5,6 @@ use Rattle.row.specs.declared.state.Count.{Count}
 use Rattle.row.specs.declared.state.Leader.{Leader}
 use Rattle.row.specs.Rows.{tells, proves}
 use Rattle.row.specs.States.{counted, count_at}
-use Rattle.row.specs.Effects.{gained}
 use Rattle.counting.proofs.Leaders.{gained_tells, gained_proves}
 use Rattle.counting.proofs.leader.gained.Goals as goal
 

@@ -1,9 +1,7 @@
 -- With one last more the leader keeps what every leader keeps.
 -- From the laws of leaders.
-use Rattle.std.proofs.Common.{◌≡◌, Bool, true, cond, length, set, sym, ap, ◌∙◌, subst, rules}
-use Rattle.wire.specs.declared.message.Entry.{Entry}
+use Rattle.std.proofs.Common.{◌≡◌, cond, length, set, ap, ◌∙◌}
 use Rattle.row.specs.declared.state.Count.{Count}
-use Rattle.row.specs.declared.state.Leader.{Leader}
 use Rattle.row.specs.Rows.{tells, proves}
 use Rattle.row.specs.States.{counted, count_at}
 use Rattle.row.specs.Effects.{told, undercuts}

@@ -1,6 +1,6 @@
 -- A number's four bytes are its 32 bits.
 -- Each is the rest of a division by 256.
-use Rattle.std.proofs.Common.{◌≡◌, ◌<◌, sym, ap, ◌∙◌, subst, arith}
+use Rattle.std.proofs.Common.{◌<◌, sym, ap, ◌∙◌, subst, arith}
 use Rattle.std.specs.List.{AllByRecursion}
 use Rattle.grammar.specs.Bits.{bits}
 use Rattle.head.proofs.Joins.{four_bytes}

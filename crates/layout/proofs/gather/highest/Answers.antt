@@ -1,7 +1,7 @@
 -- Uneven entries and an entry that is not allowed may not stand.
 -- What has passed may, with one reply more at each member.
-use Rattle.std.proofs.Common.{◌≡◌, ◌+◌, max, true, false, sym, refl, ap, ◌∙◌, subst, arith}
-use Rattle.layout.specs.Measures.{Even, Going, Evened, proper, reply_of}
+use Rattle.std.proofs.Common.{◌≡◌, ◌+◌, max, true, sym, ap, ◌∙◌, subst, arith}
+use Rattle.layout.specs.Measures.{Going, proper, reply_of}
 use Rattle.layout.proofs.Replies.{begin, next, skip, finish, improper, uneven, evens, absent, tag_of_even}
 use Rattle.layout.proofs.gather.highest.Goals as goal
 use Rattle.layout.proofs.gather.highest.Goals.{in-Some+else-not-allowed, in_default}

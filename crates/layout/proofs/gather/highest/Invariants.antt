@@ -1,6 +1,6 @@
 -- The replies of the boards passed are allowed.
 -- `top` is their highest earlier rank.
-use Rattle.layout.specs.Measures.{Even, Going}
+use Rattle.layout.specs.Measures.{Going}
 use Rattle.layout.proofs.gather.highest.Given as goal
 
 abbrev pub invariant-loop-board : goal.invariant-loop-board

@@ -1,10 +1,9 @@
 -- Nothing is taken of a message at first; then its kind, then its view.
 -- The table says what follows.
-use Rattle.std.proofs.Common.{◌≡◌, ◌^◌, ◌<◌, true, List, [], sym, refl, subst, arith}
+use Rattle.std.proofs.Common.{◌≡◌, ◌^◌, ◌<◌, true, [], sym, refl, subst, arith}
 use Rattle.grammar.specs.Bits.{bits_of}
 use Rattle.grammar.specs.Grammar.{After, spell}
 use Rattle.wire.specs.Format.{message}
-use Rattle.layout.specs.declared.plan.Head.{Head}
 use Rattle.layout.specs.Heads.{Holds}
 use Rattle.layout.proofs.head.opening.Goals as goal
 

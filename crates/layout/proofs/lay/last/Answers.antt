@@ -1,7 +1,6 @@
 -- The speaker's set and entry in the head, then its tag, then the proof.
 -- The set is just the speaker exactly if there is such a board.
-use Rattle.std.proofs.Common.{◌≡◌, ◌^◌, ◌<◌, [], ◌∷◌, ◌++◌, sym, refl, ap, ◌∙◌, subst, arith}
-use Rattle.boards.specs.Boards.{size, only}
+use Rattle.std.proofs.Common.{◌≡◌, ◌^◌, ◌<◌, ◌∷◌, sym, refl, ap, ◌∙◌, subst, arith}
 use Rattle.grammar.specs.Grammar.{Grammar, Item, from_to}
 use Rattle.wire.specs.Fields.{lone, entered, proof}
 use Rattle.wire.specs.Messages.{tags_of}

@@ -1,10 +1,10 @@
 -- Each kind by its head and its end.
 -- What the table has for the kind, antt computes.
-use Rattle.std.proofs.Common.{◌≡◌, ℕ, ◌<◌, true, [], ◌∷◌, ◌++◌, sym, refl, ap, ◌∙◌, subst, arith}
+use Rattle.std.proofs.Common.{◌≡◌, ℕ, ◌<◌, true, refl, ap, ◌∙◌, subst, arith}
 use Rattle.std.proofs.lemmas.Bool.{and_from, le-leb}
 use Rattle.boards.specs.Boards.{size, only}
 use Rattle.boards.proofs.Sets.{size_only}
-use Rattle.grammar.specs.Grammar.{Grammar, Item, from_to}
+use Rattle.grammar.specs.Grammar.{Grammar, from_to}
 use Rattle.wire.specs.Fields.{lone_tag, tagged, own_tag}
 use Rattle.wire.specs.Messages.{tags_of}
 use Rattle.wire.specs.Format.{opening, content_values, set_values}

@@ -1,6 +1,6 @@
 -- The set in the head, then the replies of its boards.
 -- Then the proof for the highest earlier rank.
-use Rattle.std.proofs.Common.{◌≡◌, ℕ, ◌^◌, ◌<◌, [], ◌∷◌, ◌++◌, sym, refl, subst, arith}
+use Rattle.std.proofs.Common.{◌≡◌, ℕ, ◌^◌, ◌<◌, sym, refl, subst, arith}
 use Rattle.boards.specs.Boards.{size}
 use Rattle.grammar.specs.Grammar.{Grammar, from_to}
 use Rattle.wire.specs.Fields.{entries, proof}

@@ -1,6 +1,6 @@
 -- Stored tags are as many as the set has boards.
 -- The other kinds of tags need no proof here.
-use Rattle.std.proofs.Common.{◌≡◌, true, sym, subst}
+use Rattle.std.proofs.Common.{true, sym, subst}
 use Rattle.std.proofs.lemmas.Bool.{eq-eqb}
 use Rattle.layout.specs.Measures.{Measured}
 use Rattle.layout.proofs.Stored.{stored_long, stored_fits}

@@ -1,6 +1,6 @@
 -- A board below 8 makes a set of one.
 -- Any other makes the empty set, which is not allowed.
-use Rattle.std.proofs.Common.{◌≡◌, ◌++◌, sym, ap, ◌∙◌, subst, arith}
+use Rattle.std.proofs.Common.{◌++◌, ap, ◌∙◌, subst, arith}
 use Rattle.boards.specs.Boards.{size}
 use Rattle.boards.proofs.Sets.{size_only}
 use Rattle.wire.specs.Fields.{lone}

@@ -1,6 +1,6 @@
 -- A proof where there is an earlier rank, none where there is none.
 -- Any other may not stand.
-use Rattle.std.proofs.Common.{◌≡◌, sym, refl, ◌∙◌}
+use Rattle.std.proofs.Common.{sym, refl, ◌∙◌}
 use Rattle.layout.proofs.Seals.{refused}
 use Rattle.layout.proofs.seal.proven.Goals as goal
 

@@ -1,6 +1,6 @@
 -- Allowed fields and fitting tags make a message.
 -- Either one missing makes none.
-use Rattle.std.proofs.Common.{◌≡◌, ◌<◌, Bool, true, false, sym, ◌∙◌, ⊎_elim, arith}
+use Rattle.std.proofs.Common.{◌≡◌, ◌<◌, true, false, sym, ◌∙◌, ⊎_elim, arith}
 use Rattle.std.proofs.lemmas.Bool.{and_parts, and_cases, eqb-true, cases_Bool}
 use Rattle.layout.proofs.Seals.{lays, misfit, allowed, barred}
 use Rattle.layout.proofs.seal.sealed.Goals as goal

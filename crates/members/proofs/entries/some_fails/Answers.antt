@@ -1,6 +1,6 @@
 -- One board that fails is enough; none did where the loop ends.
 -- The laws of `any`.
-use mathlib.Core.Path.{◌≡◌, sym}
+use mathlib.Core.Path.{sym}
 use native.Mathlib.Omega.{arith}
 use Rattle.wire.specs.Messages.{meaning}
 use Rattle.boards.proofs.Chosen.{any_true, any_false}

@@ -1,6 +1,6 @@
 -- A deputy message can be sent: a member has a rank from 1 to 8.
 -- From the laws of lone messages.
-use Rattle.std.proofs.Common.{◌≡◌, [], length, sym, subst, arith}
+use Rattle.std.proofs.Common.{[], length, sym, subst, arith}
 use Rattle.boards.proofs.Sets.{place_below, size_le}
 use Rattle.sending.specs.Sends.{Speakable}
 use Rattle.sending.proofs.Lones.{can_deputy}

@@ -1,6 +1,6 @@
 -- A notify can be sent: view, change and board are in range.
 -- From the laws of lone messages.
-use Rattle.std.proofs.Common.{◌≡◌, [], length, sym, subst}
+use Rattle.std.proofs.Common.{[], length, sym, subst}
 use Rattle.sending.specs.Sends.{Speakable}
 use Rattle.sending.proofs.Lones.{can_notify}
 use Rattle.membership.proofs.asks.notify.Goals as goal

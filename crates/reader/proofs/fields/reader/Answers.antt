@@ -1,4 +1,4 @@
-use Rattle.std.proofs.Common.{◌≡◌, ◌+◌, ◌*◌, drop, sym, refl, ap, ◌∙◌, arith, rules}
+use Rattle.std.proofs.Common.{◌≡◌, ◌+◌, ◌*◌, drop, sym, arith, rules}
 use Rattle.grammar.specs.Grammar.{outcome}
 use Rattle.grammar.specs.Bits.{bits}
 use Rattle.reader.specs.Places.{met}

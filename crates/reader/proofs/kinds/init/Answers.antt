@@ -1,6 +1,5 @@
 use Rattle.std.proofs.Common.{[], ◌∷◌, ap}
-use Rattle.std.proofs.lemmas.Result.{err_from_is_err_and}
-use Rattle.grammar.specs.Grammar.{Grammar, Item, more}
+use Rattle.grammar.specs.Grammar.{Item, more}
 use Rattle.wire.specs.Fields.{own_tag}
 use Rattle.reader.proofs.Chains.{passed_by, read, cut}
 use Rattle.reader.proofs.kinds.init.Goals as goal

@@ -1,6 +1,6 @@
-use Rattle.std.proofs.Common.{◌≡◌, [], ◌∷◌, ap, ◌∙◌, subst}
+use Rattle.std.proofs.Common.{subst}
 use Rattle.std.proofs.lemmas.Result.{err_from_is_err_and}
-use Rattle.grammar.specs.Grammar.{Grammar, Item, more, from_to}
+use Rattle.grammar.specs.Grammar.{from_to}
 use Rattle.reader.specs.Places.{Read}
 use Rattle.reader.proofs.Loops.{entered_by, cut_off}
 use Rattle.reader.proofs.parts.entered.Goals as goal

@@ -1,7 +1,6 @@
-use Rattle.std.proofs.Common.{◌≡◌, leb, ap, ◌∙◌, arith}
+use Rattle.std.proofs.Common.{◌≡◌, leb, ◌∙◌, arith}
 use Rattle.std.proofs.lemmas.Bool.{and_parts, leb-true}
 use Rattle.std.proofs.lemmas.Result.{err_from_is_err_and}
-use Rattle.grammar.specs.Grammar.{Grammar}
 use Rattle.wire.specs.Fields.{view}
 use Rattle.wire.specs.Format.{message, body}
 use Rattle.reader.proofs.Chains.{read}

@@ -1,6 +1,6 @@
 -- The count of good tags: each tag adds what its check says.
 -- At the end nothing is left to count.
-use Rattle.std.proofs.Common.{◌≡◌, ℕ, ◌+◌, ◌<◌, ◌≤◌, Bool, true, false, cond, length, get_or, drop, sym, ap, ◌∙◌, arith}
+use Rattle.std.proofs.Common.{◌≡◌, ℕ, ◌<◌, cond, length, get_or, sym, ap, ◌∙◌, arith}
 use Rattle.schemes.proofs.Counting.{no_tag, count_more, count_all}
 use Rattle.schemes.proofs.counts.count_good.Goals as goal
 use Rattle.schemes.proofs.counts.count_good.Goals.{then-check, else-check}

@@ -1,6 +1,6 @@
 -- Past the end there is no entry: 0 has no earlier rank and no change.
 -- Within, the byte is taken apart as the format has it.
-use Rattle.std.proofs.Common.{◌≡◌, ◌/◌, ◌%◌, sym, arith}
+use Rattle.std.proofs.Common.{◌/◌, ◌%◌, sym}
 use Rattle.std.proofs.lemmas.List.{get_or_past}
 use Rattle.signed.proofs.replies.entry_at.Goals as goal
 

@@ -1,6 +1,6 @@
 -- The reply at a board's place: heard at nine times the place, stored at the board's number.
 -- Both are the entry that the list of replies has there.
-use Rattle.std.proofs.Common.{◌≡◌, get_or, sym, ap, ◌∙◌}
+use Rattle.std.proofs.Common.{get_or, sym, ap, ◌∙◌}
 use Rattle.boards.proofs.Members.{member_below}
 use Rattle.wire.specs.Messages.{replies_of, stored_replies}
 use Rattle.wire.specs.Acts.{no_reply}

@@ -1,7 +1,7 @@
 -- All replies are left at first; each turn moves the last into what is found; at the end none is left.
 -- The count of replies is rounded up without a sum that could wrap.
-use Rattle.std.proofs.Common.{◌≡◌, ℕ, zero, suc, ◌+◌, ◌-◌, ◌*◌, ◌/◌, ◌%◌, ◌<◌, length, sym, refl, ap, ◌∙◌, arith}
-use Rattle.wire.specs.Messages.{replies_in, heard_replies, reply_at, none}
+use Rattle.std.proofs.Common.{◌≡◌, suc, ◌+◌, ◌-◌, ◌/◌, ◌%◌, length, sym, ap, ◌∙◌, arith}
+use Rattle.wire.specs.Messages.{replies_in, heard_replies, none}
 use Rattle.wire.specs.Acts.{lower}
 use Rattle.signed.proofs.Lowest.{onto, onto_none, lowest_onto, heard_moves}
 use Rattle.signed.proofs.replies.lowest_heard.Goals as goal

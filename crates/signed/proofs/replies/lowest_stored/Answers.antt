@@ -1,6 +1,6 @@
 -- All boards are left at first; each turn moves the last into what is found if it is in the set; at the end none is left.
 -- The tags beside the entries do not matter.
-use Rattle.std.proofs.Common.{◌≡◌, sym, ◌∙◌}
+use Rattle.std.proofs.Common.{sym, ◌∙◌}
 use Rattle.std.proofs.lemmas.Bool.{cond-true, cond-false}
 use Rattle.signed.proofs.Lowest.{lowest_onto, board_turn, no_board_left}
 use Rattle.signed.proofs.replies.lowest_stored.Goals as goal

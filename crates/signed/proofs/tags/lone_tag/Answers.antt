@@ -1,6 +1,6 @@
 -- A speaker's tag is the whole of its bytes.
 -- The set of the speaker has one place.
-use Rattle.std.proofs.Common.{◌≡◌, ◌≤◌, length, sym, refl, ap, ◌∙◌, subst, arith}
+use Rattle.std.proofs.Common.{◌≤◌, length, sym, ap, ◌∙◌, subst, arith}
 use Rattle.std.proofs.lemmas.List.{take_all}
 use Rattle.boards.specs.Boards.{only}
 use Rattle.boards.proofs.Members.{member_below}

@@ -1,6 +1,6 @@
 -- A stored tag stands at its board's place, and a fresh one at the first.
 -- Past the first place a fresh tag leaves no bytes.
-use Rattle.std.proofs.Common.{◌≡◌, ◌*◌, ◌≤◌, length, take, drop, sym, refl, ap, ◌∙◌, arith}
+use Rattle.std.proofs.Common.{◌≡◌, ◌*◌, ◌≤◌, length, take, drop, sym, ap, ◌∙◌, arith}
 use Rattle.std.proofs.lemmas.List.{drop_all}
 use Rattle.boards.proofs.Members.{member_below}
 use Rattle.wire.specs.Messages.{tag_bytes, tags_of, stored_tags}

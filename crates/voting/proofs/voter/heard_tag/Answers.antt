@@ -1,6 +1,6 @@
 -- A signer's tag is the number of its bytes; another board has none.
 -- No signer's tag is of another length than eight bytes.
-use Rattle.std.proofs.Common.{◌≡◌, ◌^◌, ◌<◌, true, false, sym, ap, ◌∙◌, ⊎_elim, rules}
+use Rattle.std.proofs.Common.{◌≡◌, ◌^◌, ◌<◌, false, sym, ap, ◌∙◌, ⊎_elim, rules}
 use Rattle.std.proofs.lemmas.Bool.{cases_Bool, cond-true, cond-false}
 use Rattle.boards.specs.Boards.{member}
 use Rattle.wire.specs.Messages.{meaning}

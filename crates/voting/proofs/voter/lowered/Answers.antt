@@ -1,6 +1,6 @@
 -- A lower floor changes nothing of what the voter keeps.
 -- From the law of voters.
-use Rattle.std.proofs.Common.{refl, rules}
+use Rattle.std.proofs.Common.{refl}
 use Rattle.voting.proofs.Voters.{lowered_keeps}
 use Rattle.voting.proofs.voter.lowered.Goals as goal
 

@@ -1,6 +1,6 @@
 -- What each kind asks holds of a message that is taken, and what it does is what the rules say.
 -- The fields of the message are those of its kind.
-use Rattle.std.proofs.Common.{◌≡◌, ◌<◌, length, sym, ap, ◌∙◌, subst}
+use Rattle.std.proofs.Common.{◌<◌, length, sym, ap, ◌∙◌, subst}
 use Rattle.wire.specs.declared.message.Entry.{Entry}
 use Rattle.wire.specs.Acts.{proof_of}
 use Rattle.wire.specs.Messages.{meaning}

@@ -1,6 +1,6 @@
 -- The ready can be sent, and what is kept has a rank, a change and acks to show for it.
 -- From the laws of lone messages and of voters.
-use Rattle.std.proofs.Common.{◌≡◌, ◌-◌, ◌*◌, [], length, sym, ap, ◌∙◌, subst}
+use Rattle.std.proofs.Common.{◌-◌, ◌*◌, [], length, sym, ap, ◌∙◌, subst}
 use Rattle.boards.specs.Boards.{only}
 use Rattle.wire.specs.Messages.{meaning}
 use Rattle.row.specs.States.{seat, group}

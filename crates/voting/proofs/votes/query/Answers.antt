@@ -1,6 +1,6 @@
 -- The last can be sent: a row can tell what its voter keeps.
 -- From the law of voters.
-use Rattle.std.proofs.Common.{◌≡◌, ◌<◌, length, sym, ap, ◌∙◌, subst}
+use Rattle.std.proofs.Common.{◌<◌, length, sym, ap, ◌∙◌, subst}
 use Rattle.wire.specs.Messages.{stored_tags}
 use Rattle.wire.specs.Acts.{Act}
 use Rattle.row.specs.States.{kept_entry}

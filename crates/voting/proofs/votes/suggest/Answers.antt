@@ -1,6 +1,6 @@
 -- The ack can be sent: view, rank and change are in range, and what the voter keeps stays.
 -- From the laws of lone messages and of voters.
-use Rattle.std.proofs.Common.{◌≡◌, [], length, sym, ap, ◌∙◌, subst}
+use Rattle.std.proofs.Common.{[], length, sym, ap, ◌∙◌, subst}
 use Rattle.row.specs.declared.state.Voter.{Voter}
 use Rattle.sending.specs.Sends.{Speakable}
 use Rattle.sending.proofs.Lones.{can_ack}

@@ -1,6 +1,6 @@
 -- A rank and a change after kind and view, and nothing more.
 -- The kind is 3.
-use Rattle.std.proofs.Common.{◌≡◌, ◌%◌, refl, ap, inl}
+use Rattle.std.proofs.Common.{◌%◌, refl, ap, inl}
 use Rattle.words.proofs.heads.ack.Goals as goal
 
 pub returns : goal.returns

@@ -1,6 +1,6 @@
 -- A rank after kind and view, and nothing more.
 -- The kind is 7.
-use Rattle.std.proofs.Common.{◌≡◌, ◌%◌, refl, ap, inl}
+use Rattle.std.proofs.Common.{◌%◌, refl, ap, inl}
 use Rattle.words.proofs.heads.deputy.Goals as goal
 
 pub returns : goal.returns

@@ -1,6 +1,6 @@
 -- Five zero bits and a change after the rank.
 -- They are allowed as the table has them.
-use Rattle.std.proofs.Common.{◌≡◌, refl, arith}
+use Rattle.std.proofs.Common.{refl, arith}
 use Rattle.words.proofs.Building.{Next, wider, step}
 use Rattle.words.proofs.heads.graded.Goals as goal
 

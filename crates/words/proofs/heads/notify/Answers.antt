@@ -1,6 +1,6 @@
 -- A zero bit and a change after kind and view.
 -- Nothing comes after them in the table.
-use Rattle.std.proofs.Common.{◌≡◌, ◌%◌, refl, ap, inl, arith}
+use Rattle.std.proofs.Common.{◌%◌, refl, ap, inl, arith}
 use Rattle.words.proofs.Building.{Next, wider, step}
 use Rattle.words.proofs.heads.notify.Goals as goal
 

@@ -1,6 +1,6 @@
 -- Kind and view, from nothing.
 -- The kind is taken as allowed; that it is a lone kind is what the caller knows.
-use Rattle.std.proofs.Common.{◌≡◌, refl, subst, arith}
+use Rattle.std.proofs.Common.{refl, subst, arith}
 use Rattle.head.specs.Heads.{Holds}
 use Rattle.wire.specs.Acts.{signed}
 use Rattle.words.proofs.Building.{Next, wider, step}

@@ -1,6 +1,6 @@
 -- A rank after kind and view.
 -- It is allowed as the table has it.
-use Rattle.std.proofs.Common.{◌≡◌, refl, arith}
+use Rattle.std.proofs.Common.{refl, arith}
 use Rattle.words.proofs.Building.{Next, wider, step}
 use Rattle.words.proofs.heads.ranked.Goals as goal
 

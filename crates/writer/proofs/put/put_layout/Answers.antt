@@ -1,6 +1,6 @@
 -- Head, middle, set and tags one after another.
 -- There is room for each since there is for all.
-use Rattle.std.proofs.Common.{◌≡◌, arith}
+use Rattle.std.proofs.Common.{arith}
 use Rattle.writer.proofs.Puts.{more, same}
 use Rattle.writer.proofs.Lengths.{layout_long, layout_parts}
 use Rattle.writer.proofs.put.put_layout.Goals as goal

@@ -1,6 +1,6 @@
 -- Replies are nine bytes for each board.
 -- Nothing is nothing.
-use Rattle.std.proofs.Common.{◌≡◌, ◌+◌, ◌≤◌, length, sym, subst, arith}
+use Rattle.std.proofs.Common.{◌+◌, ◌≤◌, length, sym, subst, arith}
 use Rattle.layout.specs.Layouts.{middle_bytes, Sized}
 use Rattle.layout.proofs.Fronts.{replies_even}
 use Rattle.writer.specs.Writes.{Put}

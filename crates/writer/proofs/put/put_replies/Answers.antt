@@ -1,14 +1,10 @@
 -- One reply more at a member, none at any other board.
 -- There is room for nine bytes for each.
-use Rattle.std.proofs.Common.{◌≡◌, ◌+◌, ◌∷◌, ◌++◌, sym, ap, ◌∙◌, subst, arith}
-use Rattle.boards.specs.Boards.{place}
+use Rattle.std.proofs.Common.{◌≡◌, ◌∷◌, ◌++◌, sym, ap, ◌∙◌, arith}
 use Rattle.boards.proofs.Sets.{place_below}
-use Rattle.wire.specs.Messages.{tags_of}
-use Rattle.layout.specs.Measures.{reply_of}
 use Rattle.layout.specs.Layouts.{entry_byte, replies_bytes}
 use Rattle.layout.proofs.Replies.{absent, replies_listed}
 use Rattle.layout.proofs.Fronts.{listed_bytes}
-use Rattle.writer.specs.Writes.{Put}
 use Rattle.writer.proofs.Puts.{none, more, same, reached}
 use Rattle.writer.proofs.Rows.{answers, answers_in, answers_out, answers_none}
 use Rattle.writer.proofs.put.put_replies.Goals as goal

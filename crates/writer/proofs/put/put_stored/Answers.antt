@@ -1,7 +1,6 @@
 -- One tag more at a member, none at any other board.
 -- There is room for one tag for each.
-use Rattle.std.proofs.Common.{◌≡◌, true, false, sym, ◌∙◌, subst, arith}
-use Rattle.boards.specs.Boards.{member}
+use Rattle.std.proofs.Common.{◌≡◌, sym, ◌∙◌, subst, arith}
 use Rattle.boards.proofs.Sets.{place_below}
 use Rattle.writer.specs.Writes.{Put}
 use Rattle.writer.proofs.Puts.{none, more, same, reached}

@@ -1,6 +1,6 @@
 -- Stored tags are eight bytes for each board.
 -- So there is room for them.
-use Rattle.std.proofs.Common.{◌≡◌, ◌+◌, ◌≤◌, length, subst, arith}
+use Rattle.std.proofs.Common.{◌+◌, ◌≤◌, length, subst, arith}
 use Rattle.wire.specs.Messages.{tags_of}
 use Rattle.layout.proofs.Stored.{stored_long}
 use Rattle.writer.proofs.put.put_tags.Goals as goal

@@ -1,6 +1,6 @@
 -- The parts together.
 -- None of them is longer than the whole, which is short.
-use Rattle.std.proofs.Common.{sym, arith}
+use Rattle.std.proofs.Common.{arith}
 use Rattle.writer.proofs.Lengths.{layout_sum}
 use Rattle.writer.proofs.room.needed.Goals as goal
 

@@ -1,6 +1,6 @@
 -- Stored tags are eight bytes for each board.
 -- The other kinds of tags need no proof here.
-use Rattle.std.proofs.Common.{◌≡◌, ◌*◌, length, sym, ap, ◌∙◌}
+use Rattle.std.proofs.Common.{◌*◌, length, sym, ap, ◌∙◌}
 use Rattle.wire.specs.Messages.{tags_of}
 use Rattle.layout.proofs.Stored.{stored_long}
 use Rattle.writer.proofs.room.of_tags.Goals as goal

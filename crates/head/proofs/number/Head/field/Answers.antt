@@ -1,6 +1,6 @@
 -- Widening a number leaves its bits, and the low bits of the value come beside them.
 -- The sum stays below the new width's power, which is the head's invariant.
-use Rattle.std.proofs.Common.{◌≡◌, ℕ, ◌+◌, ◌-◌, ◌*◌, ◌%◌, ◌^◌, ◌<◌, ◌≤◌, ◌&&◌, ltb, sym, refl, ap, ◌∙◌, subst, arith, pow_mono}
+use Rattle.std.proofs.Common.{◌≡◌, ℕ, ◌+◌, ◌-◌, ◌*◌, ◌%◌, ◌^◌, ◌<◌, ◌≤◌, ◌&&◌, ltb, sym, refl, ap, subst, arith, pow_mono}
 use Rattle.std.proofs.lemmas.Nat.{shl_whole, one_shl}
 use Rattle.head.proofs.Joins.{joined, beside_below}
 use Rattle.head.proofs.number.Head.field.Goals as goal

@@ -1,6 +1,6 @@
 -- A number moved up has its own bits first and zeros after them.
 -- A head with no field is all zeros.
-use Rattle.std.proofs.Common.{◌≡◌, ◌+◌, ◌-◌, ◌*◌, ◌^◌, ◌++◌, sym, refl, ap, ◌∙◌, arith}
+use Rattle.std.proofs.Common.{◌≡◌, ◌+◌, ◌-◌, ◌*◌, ◌^◌, ◌++◌, sym, ap, ◌∙◌, arith}
 use Rattle.std.proofs.lemmas.Nat.{shl_whole}
 use Rattle.grammar.specs.Bits.{bits_of}
 use Rattle.head.proofs.Joins.{moved_up}

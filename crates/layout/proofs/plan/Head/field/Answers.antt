@@ -1,6 +1,6 @@
 -- Widening a number leaves its bits.
 -- The low bits of the value come beside them.
-use Rattle.std.proofs.Common.{◌≡◌, ℕ, ◌+◌, ◌*◌, ◌%◌, ◌^◌, ◌<◌, ◌≤◌, ◌&&◌, ltb, sym, refl, ap, ◌∙◌, subst, arith, pow_mono}
+use Rattle.std.proofs.Common.{◌≡◌, ℕ, ◌+◌, ◌*◌, ◌%◌, ◌^◌, ◌<◌, ◌≤◌, ◌&&◌, ltb, sym, refl, ap, subst, arith, pow_mono}
 use Rattle.std.proofs.lemmas.Nat.{shl_whole, one_shl}
 use Rattle.layout.proofs.Joins.{held, beside_below}
 use Rattle.layout.proofs.plan.Head.field.Goals as goal

@@ -2,7 +2,7 @@
 -- Each turn adds one item at most.
 use Rattle.std.proofs.Common.{map}
 use Rattle.wire.specs.Messages.{replies_in}
-use Rattle.script.specs.Texts.{entry_text, hex}
+use Rattle.script.specs.Texts.{hex}
 use Rattle.script.proofs.Listings.{UpTo}
 use Rattle.script.proofs.line.Line.heard_entry_tags.Given as goal
 

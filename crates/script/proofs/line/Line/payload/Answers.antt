@@ -1,6 +1,5 @@
 -- The parts of a payload, one after another.
 -- The laws are in Chains.
-use Rattle.std.proofs.Common.{sym}
 use Rattle.script.proofs.Chains.{then, named, same, dash_is, hex_is}
 use Rattle.script.proofs.line.Line.payload.Goals as goal
 
