@@ -3,9 +3,10 @@
 
 usage: python3 tools/respell.py [--dry]     at the top of the repository, on a tree that the kit's port script has just turned
 
-Types become upper camel case; all other names snake case. In the proofs of functions, a name made from a function's name takes
-that function's spelling. Names of the library, functions, fields and constants of src/, strings, inputs and outputs stay as they
-are. It stops before it writes if two names fall together.
+Types become upper camel case; all other names snake case, wherever specs/ and proofs/ name them, in clauses, and where comments
+and the pages in docs/ cite them. In the proofs of functions, a name made from a function's name takes that function's spelling.
+Names of the library, functions, fields and constants of src/, strings, inputs and outputs stay as they are. It stops before it
+writes if two names fall together in one file.
 """
 import collections
 import glob
@@ -37,6 +38,8 @@ def declared():
             line = re.sub(r"--.*", "", line.rstrip("\n"))
             for n in re.findall(r" as (" + ID + ")[,}]", line):
                 kinds[n].add("type" if n[0].isupper() else "term")
+            for n in re.findall(r"\blet (" + ID + ") [:=]", line):
+                kinds[n].add("term")
             m = re.match(r"^(?:  )?(?:(?:pub|abbrev|unfoldable|pattern) )*(data|record) (" + ID + ")", line)
             if m:
                 kinds[m[2]].add("type")
@@ -45,7 +48,7 @@ def declared():
             if line and not line[0].isspace():
                 inside = None
             m = re.match(r"^(\s*)(?:(?:pub|abbrev|unfoldable|pattern) )*((?:" + ID + r" )*" + ID + r")(?:\s*\{[^}]*\})?\s*:\s*(.*)", line)
-            if not m or m[3].startswith("goal.") or (m[1] and not inside and not re.match(r"^  (?:pub |abbrev |unfoldable )*" + ID + r" ?(\{[^}]*\} ?)?: ", line)):
+            if not m or m[3].startswith("goal.") or (m[1] and not inside and not re.match(r"^ +(?:pub |abbrev |unfoldable )*" + ID + r" ?(\{[^}]*\} ?)?: ", line)):
                 continue
             for n in m[2].split():
                 kind = "type" if re.search(r"(^|→ )Type( \S+)?\s*$", m[3]) and not (m[1] and inside) else "term"

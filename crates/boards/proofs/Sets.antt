@@ -93,11 +93,11 @@ without_old s b r w k h ne = sym (w k h ∙ ap (λ t. member s k && not t) (ne_e
     and_true false = refl
 
 pub without_gone : (s b r : ℕ) → b < 8 → Without s b r → member r b ≡ false
-without_gone s b r h w = w b h ∙ ap (λ t. member s b && not t) (eq-eqb b b refl) ∙ and-false (member s b)
+without_gone s b r h w = w b h ∙ ap (λ t. member s b && not t) (eq-eqb b b refl) ∙ and_false (member s b)
   where
-    and-false : (t : Bool) → (t && false) ≡ false
-    and-false true = refl
-    and-false false = refl
+    and_false : (t : Bool) → (t && false) ≡ false
+    and_false true = refl
+    and_false false = refl
 
 -- Two sets that differ at most at board b have sizes that differ by what b counts for.
 size_but : (s b r : ℕ) → b < 8 → ((k : ℕ) → k < 8 → (k ≡ b → ⊥) → member s k ≡ member r k) → size r + one (member s b) ≡ size s + one (member r b)

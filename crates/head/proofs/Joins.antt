@@ -29,11 +29,11 @@ clash : {A : Type 0} (b : Bool) → b ≡ true → b ≡ false → A
 clash b p q = absurd (both_ways b q p)
 
 -- One field on, allowed or not.
-pub goes_on : (g : Grammar) (is : List Item) (a ok-v fits : Bool) (w v : ℕ) (ok : ℕ → Bool) (k : ℕ → Grammar) → ok v ≡ ok-v → ltb v (2 ^ w) ≡ fits → Goes a g is (Grammar.field w ok k) → Goes ((a && ok-v) && fits) g (is ++ Item.num w v ∷ []) (k v)
+pub goes_on : (g : Grammar) (is : List Item) (a ok_v fits : Bool) (w v : ℕ) (ok : ℕ → Bool) (k : ℕ → Grammar) → ok v ≡ ok_v → ltb v (2 ^ w) ≡ fits → Goes a g is (Grammar.field w ok k) → Goes ((a && ok_v) && fits) g (is ++ Item.num w v ∷ []) (k v)
 goes_on g is true true true w v ok k o b p = onward p (After.then_num (ltb-true v (2 ^ w) b) o After.start)
 goes_on g is true true false w v ok k o b p = λ any q. clash (ltb v (2 ^ w)) (lt-ltb v (2 ^ w) (held (rest_after (Item.num w v ∷ []) p q)).1) b
 goes_on g is true false fits w v ok k o b p = λ any q. clash (ok v) (held (rest_after (Item.num w v ∷ []) p q)).2 o
-goes_on g is false ok-v fits w v ok k o b p = λ any q. let r = front_after g is (Item.num w v ∷ []) any q in p r.0 r.1
+goes_on g is false ok_v fits w v ok k o b p = λ any q. let r = front_after g is (Item.num w v ∷ []) any q in p r.0 r.1
 
 -- A head with one more field.
 pub joined : (a b : Head) (w v : ℕ) (t : Bool) → b.number ≡ a.number * 2 ^ w + v % 2 ^ w → b.width ≡ a.width + w → b.allowed ≡ ((a.allowed && t) && ltb v (2 ^ w))

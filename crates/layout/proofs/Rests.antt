@@ -49,8 +49,8 @@ pub clash : {A : Type 0} {b : Bool} → b ≡ true → b ≡ false → A
 clash {A} {b} p q = absurd (both_ways b q p)
 
 -- one field on, allowed or not
-pub goes_on : (g : Grammar) (is : List Item) (a ok-v fits : Bool) (w v : ℕ) (ok : ℕ → Bool) (k : ℕ → Grammar) → ok v ≡ ok-v → ltb v (2 ^ w) ≡ fits → Goes a g is (Grammar.field w ok k) → Goes ((a && ok-v) && fits) g (is ++ Item.num w v ∷ []) (k v)
+pub goes_on : (g : Grammar) (is : List Item) (a ok_v fits : Bool) (w v : ℕ) (ok : ℕ → Bool) (k : ℕ → Grammar) → ok v ≡ ok_v → ltb v (2 ^ w) ≡ fits → Goes a g is (Grammar.field w ok k) → Goes ((a && ok_v) && fits) g (is ++ Item.num w v ∷ []) (k v)
 goes_on g is true true true w v ok k o b p = join p (After.then_num (ltb-true v (2 ^ w) b) o After.start)
 goes_on g is true true false w v ok k o b p = λ any q. clash (lt-ltb v (2 ^ w) (un_num (cut (Item.num w v ∷ []) p q)).0) b
 goes_on g is true false fits w v ok k o b p = λ any q. clash (un_num (cut (Item.num w v ∷ []) p q)).1 o
-goes_on g is false ok-v fits w v ok k o b p = λ any q. let r = front is (Item.num w v ∷ []) q in p r.0 r.1
+goes_on g is false ok_v fits w v ok k o b p = λ any q. let r = front is (Item.num w v ∷ []) q in p r.0 r.1

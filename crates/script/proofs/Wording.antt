@@ -14,7 +14,7 @@ run bs = lead (λ b. not (blank b)) bs
 
 -- by whether a byte is blank
 by : (P : Type 0) (b : ℕ) → (blank b ≡ true → P) → (blank b ≡ false → P) → P
-by P b yes-blank no-blank = (elim (blank b) as (λ v. blank b ≡ v → P) [ true ↦ yes-blank | false ↦ no-blank ]) refl
+by P b yes_blank no_blank = (elim (blank b) as (λ v. blank b ≡ v → P) [ true ↦ yes_blank | false ↦ no_blank ]) refl
 
 gap_blank : (b : ℕ) (bs : List ℕ) → blank b ≡ true → gap (b ∷ bs) ≡ suc (gap bs)
 unfolding lead
@@ -124,9 +124,9 @@ module _ (bs : List ℕ) {rest : List ℕ} {s e : ℕ} (start : s ≡ gap bs) (p
 
   pub found : {w t : List ℕ} → (e ≡ 0 → ⊥) → w ≡ take e rest → t ≡ drop e rest → words bs ≡ w ∷ words t
   found {w} {t} some here there =
-      let w-is : w ≡ take (run (drop (gap bs) bs)) (drop (gap bs) bs) = here ∙ (λ i. take (run_is i) (rest_is i)) in
-      let t-is : t ≡ drop (run (drop (gap bs) bs)) (drop (gap bs) bs) = there ∙ (λ i. drop (run_is i) (rest_is i)) in
-      skipped bs ∙ word_first (drop (gap bs) bs) (omega (arith, run_is, some)) ∙ sym (λ i. w-is i ∷ words (t-is i))
+      let w_is : w ≡ take (run (drop (gap bs) bs)) (drop (gap bs) bs) = here ∙ (λ i. take (run_is i) (rest_is i)) in
+      let t_is : t ≡ drop (run (drop (gap bs) bs)) (drop (gap bs) bs) = there ∙ (λ i. drop (run_is i) (rest_is i)) in
+      skipped bs ∙ word_first (drop (gap bs) bs) (omega (arith, run_is, some)) ∙ sym (λ i. w_is i ∷ words (t_is i))
 
 -- a line of no bytes has no carriage return
 pub unchomped : (bs : List ℕ) → length bs ≡ 0 → bs ≡ chomped bs

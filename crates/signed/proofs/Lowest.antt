@@ -36,11 +36,11 @@ heard_moves found n xs = onto_append found (replies_in n xs) (reply_at xs (9 * n
 -- The last board moves into the entry if it passes, and is passed over if not.
 pub listed_moves : (P : ℕ → Bool) (f : ℕ → Reply) (found : Entry) (n : ℕ) → onto found (listed P f (suc n)) ≡ onto (cond (P n) (lower (f n).entry found) found) (listed P f n)
 unfolding listed
-listed_moves P f found n = onto_append found (listed P f n) (cond (P n) (f n ∷ []) []) ∙ ap (λ e. onto e (listed P f n)) (by-test (P n))
+listed_moves P f found n = onto_append found (listed P f n) (cond (P n) (f n ∷ []) []) ∙ ap (λ e. onto e (listed P f n)) (by_test (P n))
   where
-    by-test : (t : Bool) → onto found (cond t (f n ∷ []) []) ≡ cond t (lower (f n).entry found) found
-    by-test true = onto_one found (f n)
-    by-test false = onto_none found
+    by_test : (t : Bool) → onto found (cond t (f n ∷ []) []) ≡ cond t (lower (f n).entry found) found
+    by_test true = onto_one found (f n)
+    by_test false = onto_none found
 
 -- One turn over the boards: the found entry takes the last board's if the board passes, and stays if not.
 pub board_turn : (P : ℕ → Bool) (f : ℕ → Reply) (found next : Entry) (n : ℕ) (x : Entry) → 0 < n → next ≡ cond (P (n - 1)) (lower (f (n - 1)).entry found) found

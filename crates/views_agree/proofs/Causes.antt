@@ -54,8 +54,8 @@ module _ (faulty : ℕ) (deeds : ℕ → List Deed) (s : State) where
 
     -- Everything in it is of the view, and its rank is below the manager's.
     record Inner : Type 0 where
-      set-in : Within a (group s)
-      proof-in : Within p (group s)
+      set_in : Within a (group s)
+      proof_in : Within p (group s)
       below : k < many s
       told : (b : ℕ) → member a b ≡ true → misplaced k (many s) (entry_in a es b) ≡ false
 
@@ -66,8 +66,8 @@ module _ (faulty : ℕ) (deeds : ℕ → List Deed) (s : State) where
         let t = or_parts (strays p (group s)) _ r.1 in
         let u = or_parts (leb (many s) k) _ t.1 in
         record {
-          set-in = not_straying a (group s) r.0;
-          proof-in = not_straying p (group s) t.0;
+          set_in = not_straying a (group s) r.0;
+          proof_in = not_straying p (group s) t.0;
           below = leb-false (many s) k u.0;
           told = λ b i.
               ⊎_elim (λ out. absurd (both_ways (member a b) out i)) (λ well. well)
@@ -93,7 +93,7 @@ module _ (faulty : ℕ) (deeds : ℕ → List Deed) (s : State) where
         let boards = proof_shown v k a es p ak f some in
         record {
           set = p;
-          within = inner.proof-in;
+          within = inner.proof_in;
           large = ⊎_elim (λ none. absurd (omega (arith, boards, eqb-true (size p) 0 (not-false _ none)))) (λ well. as_many p (quorum (many s)) well) (and_cases (not (eqb (size p) 0)) _ odd);
           did = λ b i o. subst (λ x. Did (deeds b) x (Vote.Ack low.earlier low.change)) h.now (w.proof b o i);
         }
@@ -103,7 +103,7 @@ module _ (faulty : ℕ) (deeds : ℕ → List Deed) (s : State) where
       entries = entry_in a es;
       lasts = record {
         set = a;
-        within = inner.set-in;
+        within = inner.set_in;
         large = as_many a (quorum (many s)) (or_parts (not (eqb (size a) (quorum (many s)))) _ h.fits).0;
         did = λ b i o. subst (λ x. Did (deeds b) x (Vote.Last k (entry_in a es b))) h.now (w.set b o i);
       };

@@ -158,12 +158,12 @@ module _ {S : Type 0} (g : Ghosts S) where
       → Matches d e → Done g board e out s a s2 out2 → Posted to (lone act b p ak t) out a out2 → SigningEffect e (words act)
   unfolding Matches
   from_bytes d Effect.silent board to act b p ak t out s a s2 out2 fit done posted =
-      let none : length-of a ≡ 0 = ap length-of done.0 in
-      let long = ap length-of posted.answer in
+      let none : length_of a ≡ 0 = ap length_of done.0 in
+      let long = ap length_of posted.answer in
       absurd (form_some (lone act b p ak t) (⊎_elim (λ odd. omega arith) (λ echo. omega arith) (lone_kinds act b p ak t)) (sym long ∙ none))
     where
-      length-of : Sent → ℕ
-      length-of z = z.length
+      length_of : Sent → ℕ
+      length_of z = z.length
   from_bytes d (Effect.sends for m) board to act b p ak t out s a s2 out2 fit done posted =
       let same = same_kind (lone act b p ak t) m (one_form posted done.0) in
       let even = and_parts (eqb (kind m % 2) 0) (leb (kind m) 10) fit in

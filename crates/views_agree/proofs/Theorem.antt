@@ -50,8 +50,8 @@ module _ {S : Type 0} (g : Ghosts S) (faulty first : ℕ) where
         ⊎_elim (λ old. earned_still g faulty first rows rows2 h e a t v.1 b x (earned run v.0 before b x o h1 old) old)
         (λ new. earned_now g faulty first rows rows2 h e a t v.1 b x o (few a before) h1 new h2) (cases_lt x (latest (row_of rows b)))
 
-    asked-for : {rows : List State} {h : List Step} → Leads g faulty start rows h → Vouched faulty h → Bounded faulty rows → AskedFor faulty rows h
-    asked-for {rows} {h} run v bound b x y w o p q =
+    asked_for : {rows : List State} {h : List Step} → Leads g faulty start rows h → Vouched faulty h → Bounded faulty rows → AskedFor faulty rows h
+    asked_for {rows} {h} run v bound b x y w o p q =
         let r = in_range (row_of rows b).views x y p.0 p.1 in
         let n = in_range (row_of rows b).views (x + 1) w q.0 q.1 in
         let z = earned run v bound b x o r.0 (omega (arith, n.1)) in
@@ -59,4 +59,4 @@ module _ {S : Type 0} (g : Ghosts S) (faulty first : ℕ) where
 
 pub views_agree : {S : Type 0} (g : Ghosts S) → ViewsAgree g
 views_agree g faulty first start rows h some st run v bound =
-    (one_view (lives g faulty first start some st run v) bound, asked-for g faulty first start some st run v bound)
+    (one_view (lives g faulty first start some st run v) bound, asked_for g faulty first start some st run v bound)

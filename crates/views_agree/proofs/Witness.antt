@@ -1,4 +1,4 @@
--- The history of four steps: an ask_in, a suggest, a proposal and a change, each heard with the tags of board 0.
+-- The history of four steps: an ask-in, a suggest, a proposal and a change, each heard with the tags of board 0.
 -- Every fact about its states is a computation.
 use Rattle.std.proofs.Common.{◌≡◌, ℕ, zero, suc, ◌*◌, ◌<◌, true, false, not, ltb, List, [], ◌∷◌, length, set, replicate, Some, None, Ok, sym, refl, ap, ◌∙◌, subst, inl, ⊎_elim, arith}
 use lib.Bits.{bit_and}

@@ -46,11 +46,11 @@ module _ {S : Type 0} (g : Ghosts S) where
       let p = passes st s (Msg.proposal v k c a t) room h in
       let f = held h.formed in
       let r = between 1 8 k f.3.3.2 in
-      let many-a : size a ≡ quorum (many st) = eqb-true (size a) (quorum (many st)) (not-false _ p.sized) in
+      let many_a : size a ≡ quorum (many st) = eqb-true (size a) (quorum (many st)) (not-false _ p.sized) in
       let one = peopled st _ p.member in
       let long : length t ≡ 8 * size a = f.3.3.3.3.3.3.0 in (
         record { signed = refl; long = λ b i. tag_at_long (place a b) t (omega (arith, long, place_below a b i)) },
-        omega (arith, many-a, quorum_above (many st) one),
+        omega (arith, many_a, quorum_above (many st) one),
         r.0,
         r.1,
         f.3.3.3.3.1,

@@ -84,7 +84,7 @@ pub left_over : LeftOver
 left_over bs q b r =
     let o = over_or_short message (bits bs) 0 q r in
     let long = length_bits bs in
-    let over-at : q < length bs → ((m : Msg) × (xs : List ℕ) × Formed m × (bs ≡ form m ++ xs) × (0 < length xs) × (q ≡ length (form m))) ⊎ (q ≡ length bs) = λ h.
+    let over_at : q < length bs → ((m : Msg) × (xs : List ℕ) × Formed m × (bs ≡ form m ++ xs) × (0 < length xs) × (q ≡ length (form m))) ⊎ (q ≡ length bs) = λ h.
     let s : Left message (bits bs) 0 q = o.0 (omega (arith, long)) in
     let k = spelt s.items s.stands.allowed in
     let m = k.0 in
@@ -96,7 +96,7 @@ left_over bs q b r =
     let count : length s.front + length s.rest ≡ 8 * length bs = sym (length-append s.front s.rest) ∙ sym (ap length s.form) ∙ long in
     let more : 0 < length xs = omega (arith, ap length parts, length-append (form m) xs, wide, count, s.some) in
     inl (m, xs, f, parts, more, omega (arith, s.place, wide)) in
-    ⊎_elim over-at (λ h. inr (omega (arith, o.1, long))) (cases_lt q (length bs))
+    ⊎_elim over_at (λ h. inr (omega (arith, o.1, long))) (cases_lt q (length bs))
 
 pub field_refused : FieldRefused
 field_refused bs q = field_fault message (bits bs) 0 q

@@ -1,5 +1,5 @@
 -- A message without a proof has no board in it.
--- All other needs are closed by the search.
+-- All other goals are closed by the search.
 use Rattle.std.proofs.Common.{rules}
 use Rattle.boards.proofs.Members.{member_none}
 use Rattle.checks.proofs.stated.Goals as goal

@@ -1,5 +1,5 @@
 -- A message of another kind has no proof, and no board is in the empty set.
--- All other needs are closed by the search.
+-- All other goals are closed by the search.
 use Rattle.std.proofs.Common.{rules}
 use Rattle.boards.proofs.Members.{member_none}
 use Rattle.signed.proofs.proof_tag.Goals as goal

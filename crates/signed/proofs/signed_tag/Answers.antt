@@ -1,5 +1,5 @@
 -- The signer of a last is its speaker.
--- All other needs are closed by the search.
+-- All other goals are closed by the search.
 use Rattle.std.proofs.Common.{◌≡◌, true, subst}
 use Rattle.boards.specs.Boards.{member}
 use Rattle.wire.specs.Messages.{meaning}

@@ -12,7 +12,7 @@ loop-i-preserved c =
     let i = c.loop-i.i in
     let in_held : i < length c.loop-i.held = omega arith in
     let in_words : i < length words = omega arith in
-    let one-held = take_more_set c.loop-i.held i (get_or words i 0) in_held in
+    let one_held = take_more_set c.loop-i.held i (get_or words i 0) in_held in
     let one_word = take_more words i 0 in_words in
     let before = c.loop-i.invariant.1 in
     (simp length-set c.loop-i.invariant.0, cc)
@@ -21,6 +21,6 @@ pub returns : goal.returns
 returns c =
     let words = c.args.words.now in
     let held = c.loop-i.held in
-    let at-end : c.loop-i.i ≡ length words = omega arith in
-    let same : take (length words) held ≡ words = ap (λ n. take n held) (sym at-end) ∙ c.loop-i.invariant.1 ∙ take_all c.loop-i.i words (omega arith) in
+    let at_end : c.loop-i.i ≡ length words = omega arith in
+    let same : take (length words) held ≡ words = ap (λ n. take n held) (sym at_end) ∙ c.loop-i.invariant.1 ∙ take_all c.loop-i.i words (omega arith) in
     and_from _ _ (eq-eqb _ _ refl) (and_from (leb (length words) 64) _ (le-leb _ _ c.requires) ((bytes_eq-Decides (take (length words) held) words).1 same))
