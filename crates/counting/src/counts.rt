@@ -6,10 +6,10 @@ ghost use Rattle.wire.specs.Messages.{Msg, meaning};
 ghost use Rattle.wire.specs.Acts.{tag_number};
 ghost use Rattle.row.specs.Rows.{tells, proves};
 ghost use Rattle.row.specs.States.{group, many, count_tags};
-ghost use Rattle.row.specs.Effects.{Effect, filled, heard};
+ghost use Rattle.row.specs.Effects.{Effect, filled};
 ghost use Rattle.row.specs.Calls.{Posted, sent};
 ghost use Rattle.sending.proofs.Certificates.{Certified};
-ghost use Rattle.counting.specs.Counts.{Counted, Taken, SpeaksIt, own_tag, at_notify, at_ack, at_ready, at_deputy};
+ghost use Rattle.counting.specs.Counts.{Counted, SpeaksIt, own_tag, at_notify, at_ack, at_ready, at_deputy};
 
 use crate::leader::{count_at, fill, gained};
 use boards::Set;

@@ -1,6 +1,6 @@
 // Building a head field by field, and its bytes.
 // Every value is taken: of one that is too wide the low bits count, and the head is not allowed.
-ghost use Rattle.std.specs.Prelude.{◌≡◌, ◌+◌, ◌^◌, ◌<◌, ◌≤◌};
+ghost use Rattle.std.specs.Prelude.{◌+◌, ◌<◌};
 ghost use Rattle.grammar.specs.Grammar.{from_to};
 ghost use Rattle.head.specs.Heads.{BytesOf, Empty, Four, Joined, Raised};
 

@@ -1,6 +1,5 @@
 // What messages open with, one function for each shape of head.
 // The format's table has the same fields and ranges: specs of crate wire, Fields.antt.
-ghost use Rattle.std.specs.Prelude.{◌≡◌};
 ghost use Rattle.layout.specs.Heads.{Noted, Graded, Ranked, Carried, Lengths};
 ghost use Rattle.layout.specs.Measures.{Bytes};
 

@@ -1,7 +1,6 @@
 // Whether tags are what the format wants beside a set: eight bytes for each of its boards.
 // Where they lie, heard, stored or fresh, makes no difference to the bytes: specs of crate wire, Messages.antt.
 ghost use Rattle.std.specs.Prelude.{◌≡◌, ◌<◌, length};
-ghost use Rattle.std.specs.List.{AllByRecursion};
 ghost use Rattle.layout.specs.Measures.{Bytes, Measured};
 
 use boards::Set;

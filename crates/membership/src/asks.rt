@@ -1,7 +1,7 @@
 // What an ask does that is not refused: a notify to the manager, or a deputy message to the highest rank that is not suspect.
 // Rules: docs/RULES.md, "Changing the group". Formal text: specs of crate row, Effects.antt.
-ghost use Rattle.std.specs.Prelude.{◌≡◌, ◌+◌, ◌<◌, ◌≤◌, true, false, not, ◌&&◌, [], length, if◌then◌else◌, ◌≢◌};
-ghost use Rattle.boards.specs.Boards.{member, only, place};
+ghost use Rattle.std.specs.Prelude.{◌≡◌, ◌<◌, ◌≤◌, true, false, not, ◌&&◌, length, if◌then◌else◌, ◌≢◌};
+ghost use Rattle.boards.specs.Boards.{member, only};
 ghost use Rattle.wire.specs.Acts.{Act};
 ghost use Rattle.words.specs.Said.{said};
 ghost use Rattle.row.specs.Rows.{keeps};

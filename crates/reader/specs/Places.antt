@@ -1,6 +1,6 @@
 -- What a reader meets, in terms of the format: for each step, what the format says of the bytes left before and after it.
 -- "Whatever comes after" is the argument k of each clause, so that steps follow one another as equations.
-use Rattle.std.specs.Prelude.{◌≡◌, ℕ, ◌+◌, ◌-◌, ◌*◌, ◌/◌, ◌%◌, ◌^◌, ◌<◌, ◌≤◌, Bool, true, List, [], ◌∷◌, length, take, drop, Ok, Err, Result, slice_index, slice_index_or}
+use Rattle.std.specs.Prelude.{◌≡◌, ℕ, ◌+◌, ◌-◌, ◌*◌, ◌/◌, ◌%◌, ◌^◌, ◌<◌, ◌≤◌, Bool, true, List, [], ◌∷◌, length, take, drop, Ok, Err, Result, slice_index}
 use Rattle.std.specs.Borrow.{Bor}
 use Rattle.grammar.specs.declared.fault.Layer.TheVariants.{Bytes}
 use Rattle.grammar.specs.declared.fault.Fault.{Fault}
@@ -93,7 +93,7 @@ pub record Got (s : Reader) (w v : ℕ) (t : Reader) : Type 0 where
   pub below : v < 2 ^ w
   pub same : src t ≡ src s
   pub moved : at t ≡ at s + w
-  pub next : slice_index_or (src s) (s.byte + 1) 0 < 256
+  pub next : slice_index (src s) (s.byte + 1) < 256
 
 abbrev pub FieldRead : Reader → ℕ → Result ℕ Fault → Reader → Type 0
 FieldRead s w (Ok v) t = Got s w v t

@@ -1,6 +1,6 @@
 // Fields, parts and the end of a message, as a reader meets them from the front.
 // Each says what the format says of the bytes left, whatever comes after.
-ghost use Rattle.std.specs.Prelude.{◌≡◌, ℕ, ◌+◌, ◌-◌, ◌*◌, ◌<◌, ◌≤◌, length, slice_index};
+ghost use Rattle.std.specs.Prelude.{◌≡◌, ◌+◌, ◌-◌, ◌*◌, ◌<◌, ◌≤◌, slice_index};
 ghost use Rattle.boards.specs.Boards.{only};
 ghost use Rattle.grammar.specs.Grammar.{from_to};
 ghost use Rattle.reader.specs.Places.{FieldRead, ValueRead, ConstantRead, PartRead, LoneRead, SortRead, Ended, Begun};

@@ -1,6 +1,6 @@
 // The parts that several kinds share: tags of one board or of a set, entries, proofs, heads with a rank or a payload.
 // Format: docs/FRAMES.md, "Parts".
-ghost use Rattle.std.specs.Prelude.{◌≡◌, ℕ, ◌+◌, ◌*◌, ◌<◌, ◌≤◌, max, if◌then◌else◌, nat_eq};
+ghost use Rattle.std.specs.Prelude.{◌≡◌, ◌*◌, ◌<◌, max, if◌then◌else◌, nat_eq};
 ghost use Rattle.boards.specs.Boards.{size};
 ghost use Rattle.reader.specs.Places.{PartRead};
 ghost use Rattle.reader.specs.Parts.{LoneTagRead, TaggedRead, ProofRead, EnteredRead, EntriesRead, GradedRead, CarriedRead};

@@ -48,7 +48,7 @@ pub record Entered (rows : List Entry) (used board : ℕ) (words : List ℕ) (ta
   pub accepted : sign_refusal board words (register_spent rows used) ≡ None
   pub lowest : tag ≡ used
   pub held : holds (slice_index_or rows2 used no_entry) board words ≡ true
-  pub others : (t : ℕ) → (t ≢ used) → slice_index_or rows2 t no_entry ≡ slice_index_or rows t no_entry
+  pub others : (t : ℕ) → t ≢ used → slice_index_or rows2 t no_entry ≡ slice_index_or rows t no_entry
   pub as_many : length rows2 ≡ length rows
   pub counted : used2 ≡ used + 1
 

@@ -1,6 +1,5 @@
 // A line of a script as a call, or what is wrong with it.
 // Which words are which call: specs/Calls.antt. Another call is another case here and there.
-ghost use Rattle.std.specs.Prelude.{◌≡◌, codes};
 ghost use Rattle.script.specs.Words.{body};
 ghost use Rattle.script.specs.Calls.{Named, OneWord, ArgumentRead, ArgumentKeys, Parses};
 

@@ -1,9 +1,7 @@
 // Reading hexadecimal: digits in either case, two a byte, the higher first.
 // Reading undoes writing: specs/Hex.antt.
-ghost use Rattle.std.specs.Prelude.{◌≡◌, ℕ, ◌<◌, ◌≤◌, List};
-ghost use Rattle.std.specs.List.{AllByRecursion};
+ghost use Rattle.std.specs.Prelude.{◌≡◌, ◌<◌};
 ghost use Rattle.script.specs.Lines.{Wrote, Adds};
-ghost use Rattle.script.specs.Texts.{hex};
 ghost use Rattle.script.specs.Hex.{nibble, read_hex, Undone};
 
 use crate::line::Line;

@@ -15,7 +15,7 @@ use Rattle.words.specs.Said.{said}
 -- Bytes as one number, the first on top: there is one exactly if they are eight.
 abbrev pub Eight : List ℕ → Option ℕ → Type 0
 Eight t (Some x) = tag_bytes x ≡ t
-Eight t None = length t ≡ 8 → ⊥
+Eight t None = length t ≢ 8
 
 -- Board b of a set, at its place.
 pub record StandsAt (s b i : ℕ) : Type 0 where

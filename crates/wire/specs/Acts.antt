@@ -1,6 +1,6 @@
 -- Acts: what a board signs. Each tag in a message stands for an act of its board, and the words of an act are the bytes signed for it.
 -- A message that gathers many boards' tags has the words of the lone kind it gathers.
-use Rattle.std.specs.Prelude.{ℕ, ◌*◌, Bool, cond, ◌||◌, List, [], ◌∷◌, get_or, take, drop, ◌==◌, nat_lt, slice_index_or}
+use Rattle.std.specs.Prelude.{ℕ, ◌*◌, Bool, cond, ◌||◌, List, [], ◌∷◌, take, drop, ◌==◌, nat_lt, slice_index_or}
 use Rattle.boards.specs.Boards.{place, only}
 use Rattle.grammar.specs.Bits.{bits, number_of}
 use Rattle.grammar.specs.Grammar.{Grammar, Item, After, from_to}
@@ -92,7 +92,7 @@ act_of (Msg.change v r c s t) b = Act.ready v r c
 act_of (Msg.deputy v r s t) b = Act.deputy v r
 act_of (Msg.query v r s t) b = Act.deputy v r
 act_of (Msg.last v r s e p a) b = Act.last v r e.entry
-act_of (Msg.suggest_last v r s es p a) b = Act.last v r (get_or es (place s b) no_reply).entry
+act_of (Msg.suggest_last v r s es p a) b = Act.last v r (slice_index_or es (place s b) no_reply).entry
 act_of (Msg.init v s n k p t) b = Act.init v s n k p
 act_of (Msg.echo v s n k p b' t) b = Act.echo v s n k p
 act_of (Msg.commit v s n k p b' t) b = Act.echo v s n k p
@@ -116,7 +116,7 @@ tag_of (Msg.change v r c s t) b = tag_at (place s b) t
 tag_of (Msg.deputy v r s t) b = tag_at (place (only s) b) t
 tag_of (Msg.query v r s t) b = tag_at (place s b) t
 tag_of (Msg.last v r s e p a) b = e.tag
-tag_of (Msg.suggest_last v r s es p a) b = (get_or es (place s b) no_reply).tag
+tag_of (Msg.suggest_last v r s es p a) b = (slice_index_or es (place s b) no_reply).tag
 tag_of (Msg.init v s n k p t) b = tag_at (place (only s) b) t
 tag_of (Msg.echo v s n k p b' t) b = tag_at (place (only b') b) t
 tag_of (Msg.commit v s n k p b' t) b = tag_at (place b' b) t

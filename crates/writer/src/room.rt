@@ -1,6 +1,6 @@
 // How many bytes the parts of a layout have, before any is written.
 // No layout of a message has more than 141, so that the sums fit: specs of crate layout, Layouts.antt.
-ghost use Rattle.std.specs.Prelude.{◌≡◌, ◌+◌, ◌^◌, ◌<◌, ◌≤◌, length};
+ghost use Rattle.std.specs.Prelude.{◌≡◌, ◌+◌, ◌<◌, ◌≤◌, length};
 ghost use Rattle.wire.specs.Messages.{tags_of};
 ghost use Rattle.layout.specs.Layouts.{layout_bytes, middle_bytes, Sized};
 
