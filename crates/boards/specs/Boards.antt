@@ -50,6 +50,10 @@ With s b r = (k : ℕ) → k < 8 → member r k ≡ (member s k || k == b)
 abbrev pub Without : ℕ → ℕ → ℕ → Type 0
 Without s b r = (k : ℕ) → k < 8 → member r k ≡ (member s k && not (k == b))
 
+-- Set r has the boards of a that are not in b.
+abbrev pub Minus : ℕ → ℕ → ℕ → Type 0
+Minus a b r = (k : ℕ) → k < 8 → member r k ≡ (member a k && not (member b k))
+
 -- The rank of a member is its place from 1, by rising board number; no other board has one.
 abbrev pub Rank : ℕ → ℕ → Option ℕ → Type 0
 Rank s b (Some r) = (member s b ≡ true) × (r ≡ place s b + 1)

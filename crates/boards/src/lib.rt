@@ -3,11 +3,11 @@
 #![tactic(auto)]
 
 ghost use Rattle.std.specs.Prelude.{◌≡◌, ◌<◌, ◌≤◌, true, Decides, ◌==◌};
-ghost use Rattle.boards.specs.Boards.{member, only, size, Within, With, Without, Rank, Holder, QuorumsMeet, OneIsCorrect};
+ghost use Rattle.boards.specs.Boards.{member, only, size, Within, With, Without, Minus, Rank, Holder, QuorumsMeet, OneIsCorrect};
 
 mod bits;
 
-#[derive(Clone, Copy)]
+#[derive(Clone, Copy, PartialEq, Eq)]
 pub struct Set {
     pub bits: u8,
 }
@@ -69,6 +69,15 @@ impl Set {
         }
     }
 
+    // The boards of this set that are not in the other.
+    pub fn minus(self, other: Set) -> Set
+        ensures { Minus self.bits other.bits result.bits }
+    {
+        Set {
+            bits: bits::rest(self.bits, other.bits),
+        }
+    }
+
     // Whether each board of this set is in the other.
     pub fn within(self, other: Set) -> bool
         ensures { Decides result (Within self.bits other.bits) }
@@ -105,15 +114,11 @@ impl Set {
 }
 
 // Two quorums meet in a correct board.
-pub fn quorums_meet() -> u8
+pub fn quorums_meet()
     ensures { QuorumsMeet }
-{
-    0
-}
+{}
 
 // More boards than can be faulty have a correct one among them.
-pub fn one_is_correct() -> u8
+pub fn one_is_correct()
     ensures { OneIsCorrect }
-{
-    0
-}
+{}

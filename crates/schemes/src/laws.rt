@@ -5,22 +5,19 @@ ghost use Rattle.schemes.specs.Runs.{Earned, Lasting, RegisterEarned};
 use super::Scheme;
 
 // Whatever is good after some calls was good before them, or one of them signed it.
-pub fn good_was_signed<S: Scheme>(_scheme: &S) -> u8
+pub fn good_was_signed<S: Scheme>(_scheme: &S)
     ensures { Earned {S = S} S.good S.spent }
 {
-    0
 }
 
 // Whatever is good stays good.
-pub fn good_stays<S: Scheme>(_scheme: &S) -> u8
+pub fn good_stays<S: Scheme>(_scheme: &S)
     ensures { Lasting {S = S} S.good S.spent }
 {
-    0
 }
 
 // In a register that began empty, whatever is good was signed since.
-pub fn register_good_was_signed() -> u8
+pub fn register_good_was_signed()
     ensures { RegisterEarned }
 {
-    0
 }

@@ -40,8 +40,7 @@ pub fn unhex(out: Vec<u8>, digits: &[u8]) -> Result<Vec<u8>, AllocError>
 }
 
 // Reading hexadecimal undoes writing it, and what is written is digits, two a byte.
-pub fn reading_undoes_writing() -> u8
+pub fn reading_undoes_writing()
     ensures { Undone }
 {
-    0
 }

@@ -1,7 +1,8 @@
 -- Messages as plain data, and what the program's values mean: where bytes lie, heard, stored or fresh, is no part of a message.
 -- Numbers stand for themselves, a set for its byte, tags for their bytes in rising board number, eight a board.
-use Rattle.std.specs.Prelude.{ℕ, zero, suc, ◌+◌, ◌*◌, ◌/◌, ◌%◌, ◌^◌, Bool, cond, List, [], ◌∷◌, ◌++◌, length, take, drop, slice_index, slice_index_or}
+use Rattle.std.specs.Prelude.{◌≡◌, ℕ, zero, suc, ◌+◌, ◌*◌, ◌/◌, ◌%◌, ◌^◌, ◌<◌, Bool, cond, List, [], ◌∷◌, ◌++◌, length, take, drop, codes, Result, MatchResult, slice_index, slice_index_or}
 use Rattle.boards.specs.Boards.{member, only}
+use Rattle.wire.specs.declared.kind.Unknown.{Unknown}
 use Rattle.wire.specs.declared.message.Sort.{Sort}
 use Rattle.wire.specs.declared.message.Sort.TheVariants.{Report, End}
 use Rattle.wire.specs.declared.message.Entry.{Entry}
@@ -9,6 +10,8 @@ use Rattle.wire.specs.declared.message.Tags.{Tags}
 use Rattle.wire.specs.declared.message.Tags.TheVariants.{Heard, Stored, Fresh}
 use Rattle.wire.specs.declared.message.Entries.{Entries}
 use Rattle.wire.specs.declared.message.Entries.TheVariants.{Heard as HeardEntries, Stored as StoredEntries}
+use Rattle.wire.specs.declared.message.Tagged.{Tagged}
+use Rattle.wire.specs.declared.message.Replies.{Replies}
 use Rattle.wire.specs.declared.message.Message.{Message}
 use Rattle.wire.specs.declared.message.Message.TheVariants.{Notify, Suggest, Ack, Proposal, Ready, Change, Deputy, Query, Last, SuggestLast, Init, Echo, Commit}
 
@@ -70,6 +73,15 @@ abbrev pub sort_number : Sort → ℕ
 sort_number Report = 0
 sort_number End = 1
 
+-- Its name.
+abbrev pub sort_name : Sort → List ℕ
+sort_name Report = codes "report"
+sort_name End = codes "end"
+
+-- The sort with a number; no sort exactly if it is not 0 or 1.
+abbrev pub SortNumbered : ℕ → Result Sort Unknown → Type 0
+SortNumbered n r = MatchResult r (λ s. sort_number s ≡ n) (λ e. (e.0 ≡ n) × (1 < n))
+
 -- A tag's eight bytes, the top one first.
 abbrev pub tag_bytes : ℕ → List ℕ
 tag_bytes t = t / 2 ^ 56 % 256 ∷ t / 2 ^ 48 % 256 ∷ t / 2 ^ 40 % 256 ∷ t / 2 ^ 32 % 256 ∷ t / 2 ^ 24 % 256 ∷ t / 2 ^ 16 % 256 ∷ t / 2 ^ 8 % 256 ∷ t % 256 ∷ []
@@ -98,9 +110,13 @@ tags_of s (Fresh t) = tag_bytes t
 abbrev pub none : Entry
 none = record { earlier = 0; change = 0 }
 
--- The reply that begins at byte i: a byte with the earlier rank on top, then the tag.
+-- The entry in a byte: the earlier rank on top, the change in the lowest three bits.
+abbrev pub entry_in : ℕ → Entry
+entry_in b = record { earlier = b / 16; change = b % 8 }
+
+-- The reply that begins at byte i: a byte with the entry, then the tag.
 abbrev pub reply_at : List ℕ → ℕ → Reply
-reply_at xs i = record { entry = record { earlier = slice_index xs i / 16; change = slice_index xs i % 8 }; tag = take 8 (drop (i + 1) xs) }
+reply_at xs i = record { entry = entry_in (slice_index xs i); tag = take 8 (drop (i + 1) xs) }
 
 -- The n replies that stand first in bytes, nine bytes each.
 unfoldable pub replies_in : ℕ → List ℕ → List Reply
@@ -119,18 +135,25 @@ abbrev pub replies_of : ℕ → Entries → List Reply
 replies_of s (HeardEntries xs) = heard_replies xs.now
 replies_of s (StoredEntries es ts) = stored_replies s es.now ts.now
 
+-- The bytes of a set's tags, and the replies of a set.
+abbrev pub tags_by : Tagged → List ℕ
+tags_by q = tags_of q.set.bits q.tags
+
+abbrev pub replies_by : Replies → List Reply
+replies_by q = replies_of q.set.bits q.entries
+
 -- What a value of the program means.
 abbrev pub meaning : Message → Msg
 meaning (Notify v c s t) = Msg.notify v c s (tags_of (only s) t)
-meaning (Suggest v c s t) = Msg.suggest v c s.bits (tags_of s.bits t)
+meaning (Suggest v c q) = Msg.suggest v c q.set.bits (tags_by q)
 meaning (Ack v r c s t) = Msg.ack v r c s (tags_of (only s) t)
-meaning (Proposal v r c s t) = Msg.proposal v r c s.bits (tags_of s.bits t)
+meaning (Proposal v r c q) = Msg.proposal v r c q.set.bits (tags_by q)
 meaning (Ready v r c s t) = Msg.ready v r c s (tags_of (only s) t)
-meaning (Change v r c s t) = Msg.change v r c s.bits (tags_of s.bits t)
+meaning (Change v r c q) = Msg.change v r c q.set.bits (tags_by q)
 meaning (Deputy v r s t) = Msg.deputy v r s (tags_of (only s) t)
-meaning (Query v r s t) = Msg.query v r s.bits (tags_of s.bits t)
-meaning (Last v r s e t p a) = Msg.last v r s (record { entry = e; tag = tags_of (only s) t }) p.bits (tags_of p.bits a)
-meaning (SuggestLast v r s es p a) = Msg.suggest_last v r s.bits (replies_of s.bits es) p.bits (tags_of p.bits a)
+meaning (Query v r q) = Msg.query v r q.set.bits (tags_by q)
+meaning (Last v r s e t p) = Msg.last v r s (record { entry = e; tag = tags_of (only s) t }) p.set.bits (tags_by p)
+meaning (SuggestLast v r es p) = Msg.suggest_last v r es.set.bits (replies_by es) p.set.bits (tags_by p)
 meaning (Init v c t) = Msg.init v c.sender c.number c.sort c.payload.now (tags_of (only c.sender) t)
 meaning (Echo v c s t) = Msg.echo v c.sender c.number c.sort c.payload.now s (tags_of (only s) t)
-meaning (Commit v c s t) = Msg.commit v c.sender c.number c.sort c.payload.now s.bits (tags_of s.bits t)
+meaning (Commit v c q) = Msg.commit v c.sender c.number c.sort c.payload.now q.set.bits (tags_by q)

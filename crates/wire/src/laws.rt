@@ -3,56 +3,38 @@
 ghost use Rattle.wire.specs.Examples.{Examples};
 ghost use Rattle.wire.specs.Laws.{CutShort, FieldRefused, LeftOver, OneAnswer, RoundTrip, SignedAllowed, TooLong, WordsTell};
 
-pub fn bytes_have_one_answer() -> u8
+pub fn bytes_have_one_answer()
     ensures { OneAnswer }
-{
-    0
-}
+{}
 
-pub fn written_is_read_back() -> u8
+pub fn written_is_read_back()
     ensures { RoundTrip }
-{
-    0
-}
+{}
 
-pub fn cut_short_lacks_bytes() -> u8
+pub fn cut_short_lacks_bytes()
     ensures { CutShort }
-{
-    0
-}
+{}
 
-pub fn added_bytes_are_left_over() -> u8
+pub fn added_bytes_are_left_over()
     ensures { TooLong }
-{
-    0
-}
+{}
 
-pub fn left_over_behind_a_message() -> u8
+pub fn left_over_behind_a_message()
     ensures { LeftOver }
-{
-    0
-}
+{}
 
-pub fn field_is_refused() -> u8
+pub fn field_is_refused()
     ensures { FieldRefused }
-{
-    0
-}
+{}
 
-pub fn words_tell_their_act() -> u8
+pub fn words_tell_their_act()
     ensures { WordsTell }
-{
-    0
-}
+{}
 
-pub fn signed_acts_are_allowed() -> u8
+pub fn signed_acts_are_allowed()
     ensures { SignedAllowed }
-{
-    0
-}
+{}
 
-pub fn examples_stand() -> u8
+pub fn examples_stand()
     ensures { Examples }
-{
-    0
-}
+{}

@@ -2,5 +2,6 @@
 // Format: docs/FRAMES.md. Laws of the format: src/laws.rt.
 #![tactic(auto)]
 
+pub mod kind;
 pub mod laws;
 pub mod message;
