@@ -1,9 +1,9 @@
 -- Sizes of sets and places of their members, in the words of a set.
 -- What a layer above needs when it counts boards; nothing here opens a bit.
-use Rattle.std.proofs.Common.{◌≡◌, ℕ, ◌+◌, ◌<◌, ◌≤◌, Bool, true, false, not, ◌&&◌, ◌||◌, eqb, Some, None, Decides, Option, sym, refl, ap, ◌∙◌, ⊎_elim, add-one, arith}
+use Rattle.std.proofs.Common.{◌≡◌, ℕ, ◌+◌, ◌-◌, ◌<◌, ◌≤◌, Bool, true, false, not, ◌&&◌, ◌||◌, eqb, Some, None, Decides, Option, MatchOption, inl, inr, sym, refl, ap, ◌∙◌, ⊎_elim, add-one, arith}
 use lib.Bits.{bit_and}
 use Rattle.std.proofs.lemmas.Nat.{and_le_l}
-use Rattle.std.proofs.lemmas.Bool.{cases_Bool, cases_order, both_ways, and_parts, eqb-true, eq-eqb, ne_eqb}
+use Rattle.std.proofs.lemmas.Bool.{cases_Bool, cases_eq, cases_lt, cases_order, both_ways, and_parts, eqb-true, eq-eqb, ne_eqb}
 use Rattle.boards.specs.Boards.{member, only, one, tally, size, place, Within, With, Without, Holder}
 use Rattle.boards.proofs.Members.{member_and, member_below, member_none, member_only, same_set}
 use Rattle.boards.proofs.Counts.{tally_le, tally_rises, tally_some, tally_within, tally_same, tally_but}
@@ -140,3 +140,15 @@ within_and a v h = (
   (λ e k l m. (and_parts (member a k) (member v k) (sym (member_and a v k) ∙ ap (λ s. member s k) (eqb-true (bit_and a v) a e) ∙ m)).1),
   (λ w. eq-eqb (bit_and a v) a (same_set _ a (omega (arith, and_le_l a v)) h (λ k l. member_and a v k ∙ and_within (member a k) (member v k) (w k l)))),
 )
+
+-- Board b is the member of rank r.
+abbrev pub Ranked : ℕ → ℕ → ℕ → Type 0
+Ranked s r b = (member s b ≡ true) × (place s b + 1 ≡ r)
+
+-- The first of the eight boards with a rank is its holder; where none has it, it is 0 or above the size.
+pub held : (s r : ℕ) (found : Option ℕ) → MatchOption found ((k : ℕ) → 0 ≤ k → k < 8 → Ranked s r k → ⊥) (λ b. (0 ≤ b) × (b < 8) × Ranked s r b × ((k : ℕ) → 0 ≤ k → k < b → Ranked s r k → ⊥)) → Holder s r found
+held s r None none =
+    ⊎_elim (λ z. inl z) (λ some.
+    ⊎_elim (λ few. let b = place_some s (r - 1) few in absurd (none b.0 (omega arith) b.1 (b.2, omega (arith, b.3, some)))) (λ most. inr (omega (arith, most, some))) (cases_lt (r - 1) (size s)))
+    (cases_eq r 0)
+held s r (Some b) h = (h.1, h.2.0, h.2.1)

@@ -100,16 +100,7 @@ impl Set {
     pub fn at(self, rank: u8) -> Option<u8>
         ensures { Holder self.bits rank result }
     {
-        let mut seen = 0;
-        for board in 0..8 {
-            if self.has(board) {
-                seen += 1;
-                if seen == rank {
-                    return Some(board);
-                }
-            }
-        }
-        None
+        (0..8).find(|board| self.rank(*board) == Some(rank))
     }
 }
 
