@@ -7,7 +7,7 @@ use crate::parts::{Reply, all, carried, entered, graded, lone_tag, proof, tagged
 use crate::place::Reader;
 use boards::Set;
 use grammar::fault::Fault;
-use wire::message::{Entries, Message, Tags};
+use wire::message::{Entries, Message, Replies, Tagged, Tags};
 
 pub(crate) fn notify<'a>(mut r: Reader<'a>, view: u8) -> Result<Message<'a>, Fault>
     requires { r.bit ≡ 4 }
@@ -36,8 +36,10 @@ pub(crate) fn suggest<'a>(mut r: Reader<'a>, view: u8) -> Result<Message<'a>, Fa
     Ok(Message::Suggest {
         view,
         change,
-        set: Set { bits: set },
-        tags: Tags::Heard(tags),
+        by: Tagged {
+            set: Set { bits: set },
+            tags: Tags::Heard(tags),
+        },
     })
 }
 
@@ -68,8 +70,10 @@ pub(crate) fn proposal<'a>(mut r: Reader<'a>, view: u8) -> Result<Message<'a>, F
         view,
         rank,
         change,
-        set: Set { bits: set },
-        tags: Tags::Heard(tags),
+        by: Tagged {
+            set: Set { bits: set },
+            tags: Tags::Heard(tags),
+        },
     })
 }
 
@@ -100,8 +104,10 @@ pub(crate) fn change<'a>(mut r: Reader<'a>, view: u8) -> Result<Message<'a>, Fau
         view,
         rank,
         change,
-        set: Set { bits: set },
-        tags: Tags::Heard(tags),
+        by: Tagged {
+            set: Set { bits: set },
+            tags: Tags::Heard(tags),
+        },
     })
 }
 
@@ -130,8 +136,10 @@ pub(crate) fn query<'a>(mut r: Reader<'a>, view: u8) -> Result<Message<'a>, Faul
     Ok(Message::Query {
         view,
         rank,
-        set: Set { bits: set },
-        tags: Tags::Heard(tags),
+        by: Tagged {
+            set: Set { bits: set },
+            tags: Tags::Heard(tags),
+        },
     })
 }
 
@@ -150,8 +158,10 @@ pub(crate) fn last<'a>(mut r: Reader<'a>, view: u8) -> Result<Message<'a>, Fault
         speaker,
         entry,
         tag: Tags::Heard(tag),
-        proof: Set { bits: proof },
-        acks: Tags::Heard(acks),
+        proof: Tagged {
+            set: Set { bits: proof },
+            tags: Tags::Heard(acks),
+        },
     })
 }
 
@@ -167,10 +177,14 @@ pub(crate) fn suggest_last<'a>(mut r: Reader<'a>, view: u8) -> Result<Message<'a
     Ok(Message::SuggestLast {
         view,
         rank,
-        set: Set { bits: set },
-        entries: Entries::Heard(entries),
-        proof: Set { bits: proof },
-        acks: Tags::Heard(acks),
+        replies: Replies {
+            set: Set { bits: set },
+            entries: Entries::Heard(entries),
+        },
+        proof: Tagged {
+            set: Set { bits: proof },
+            tags: Tags::Heard(acks),
+        },
     })
 }
 
@@ -214,7 +228,9 @@ pub(crate) fn commit<'a>(mut r: Reader<'a>, view: u8) -> Result<Message<'a>, Fau
     Ok(Message::Commit {
         view,
         content,
-        set: Set { bits: set },
-        tags: Tags::Heard(tags),
+        by: Tagged {
+            set: Set { bits: set },
+            tags: Tags::Heard(tags),
+        },
     })
 }
