@@ -1,0 +1,69 @@
+// The rest of a head, behind kind and view: it begins between the halves of a byte and ends between two bytes.
+// Format: docs/FRAMES.md, "Kinds".
+ghost use Rattle.reader.specs.Parts.{ChangeRead, RankRead, GradedRead, CarriedRead};
+
+use crate::field::{CHANGE, END_LENGTH, NUMBER, RANK, REPORT_LENGTH, SENDER, ZERO, ZEROS};
+use crate::place::{Half, Whole};
+use grammar::fault::Fault;
+use wire::message::{Content, Sort};
+
+// What kinds 3 to 6 speak of.
+#[derive(Clone, Copy)]
+pub struct Graded {
+    pub rank: u8,
+    pub change: u8,
+}
+
+impl<'a> Half<'a> {
+    // The change, in kinds 1 and 2.
+    pub(crate) fn change(self) -> Result<(u8, Whole<'a>), Fault>
+        ensures { ChangeRead self.entry.reader result }
+    {
+        let mut reader = self.reader;
+        reader.zeros(ZERO)?;
+        let change = reader.value(CHANGE)?;
+        Ok((change, Whole { reader }))
+    }
+
+    // Rank and change, in kinds 3 to 6.
+    pub(crate) fn graded(self) -> Result<(Graded, Whole<'a>), Fault>
+        ensures { GradedRead self.entry.reader result }
+    {
+        let mut reader = self.reader;
+        let rank = reader.value(RANK)?;
+        reader.zeros(ZEROS)?;
+        let change = reader.value(CHANGE)?;
+        Ok((Graded { rank, change }, Whole { reader }))
+    }
+
+    // The rank, in kinds 7 to 10.
+    pub(crate) fn rank(self) -> Result<(u8, Whole<'a>), Fault>
+        ensures { RankRead self.entry.reader result }
+    {
+        let mut reader = self.reader;
+        let rank = reader.value(RANK)?;
+        Ok((rank, Whole { reader }))
+    }
+
+    // What kinds 11 to 13 carry.
+    pub(crate) fn carried(self) -> Result<(Content<'a>, Whole<'a>), Fault>
+        ensures { CarriedRead self.entry.reader result }
+    {
+        let mut reader = self.reader;
+        let sender = reader.value(SENDER)?;
+        let number = reader.value(NUMBER)?;
+        let sort = reader.sort()?;
+        let length = reader.value(match sort {
+            Sort::Report => REPORT_LENGTH,
+            Sort::End => END_LENGTH,
+        })?;
+        let (payload, rest) = Whole { reader }.bytes(usize::from(length))?;
+        let content = Content {
+            sender,
+            number,
+            sort,
+            payload,
+        };
+        Ok((content, rest))
+    }
+}
