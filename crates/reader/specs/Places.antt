@@ -87,11 +87,6 @@ abbrev pub ValueRead : ℕ → ℕ → ℕ → Reader → Result ℕ Fault → R
 ValueRead w a b s (Ok v) t = Read w (from_to a b) s v t
 ValueRead w a b s (Err e) t = Refused w (from_to a b) s e
 
--- Bits that are 0.
-abbrev pub ZerosRead : ℕ → Reader → Result (Unit {0}) Fault → Reader → Type 0
-ZerosRead w s (Ok u) t = Read w (from_to 0 0) s 0 t
-ZerosRead w s (Err e) t = Refused w (from_to 0 0) s e
-
 -- A kind, and a sort.
 abbrev pub KindRead : Reader → Result Kind Fault → Reader → Type 0
 KindRead s (Ok k) t = Read 4 (from_to 1 13) s (kind_number k) t

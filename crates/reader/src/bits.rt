@@ -3,7 +3,7 @@
 ghost use Rattle.std.specs.Prelude.{◌≡◌, ◌+◌, ◌*◌, ◌≤◌, length};
 ghost use Rattle.grammar.specs.declared.fault.Layer.TheVariants.{Bytes as BytesLayer, Field as FieldLayer};
 ghost use Rattle.grammar.specs.Grammar.{fault};
-ghost use Rattle.reader.specs.Places.{at, Begun, Moved, NumberAt, ValueRead, ZerosRead, KindRead, SortRead};
+ghost use Rattle.reader.specs.Places.{at, Begun, Moved, NumberAt, ValueRead, KindRead, SortRead};
 
 use crate::field::{Field, KIND, SORT};
 use crate::place::Reader;
@@ -76,14 +76,6 @@ impl<'a> Reader<'a> {
         }
         self.skip(field);
         Ok(v)
-    }
-
-    // Bits that are 0.
-    pub(crate) fn zeros(&mut self, field: Field) -> Result<(), Fault>
-        ensures { ZerosRead field.width self.old result self.new }
-    {
-        self.value(field.within(0, 0))?;
-        Ok(())
     }
 
     pub(crate) fn kind(&mut self) -> Result<Kind, Fault>

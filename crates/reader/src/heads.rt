@@ -20,7 +20,7 @@ impl<'a> Half<'a> {
         ensures { ChangeRead self.entry.reader result }
     {
         let mut reader = self.reader;
-        reader.zeros(ZERO)?;
+        reader.value(ZERO)?;
         let change = reader.value(CHANGE)?;
         Ok((change, Whole { reader }))
     }
@@ -31,7 +31,7 @@ impl<'a> Half<'a> {
     {
         let mut reader = self.reader;
         let rank = reader.value(RANK)?;
-        reader.zeros(ZEROS)?;
+        reader.value(ZEROS)?;
         let change = reader.value(CHANGE)?;
         Ok((Graded { rank, change }, Whole { reader }))
     }

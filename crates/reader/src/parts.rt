@@ -132,7 +132,7 @@ impl<'a> Whole<'a> {
     {
         let mut reader = self.reader;
         let earlier = reader.value(EARLIER)?;
-        reader.zeros(ZERO)?;
+        reader.value(ZERO)?;
         let most = if earlier == 0 { 0 } else { 7 };
         let change = reader.value(CHANGE.within(0, most))?;
         let (tag, rest) = Whole { reader }.bytes(8)?;
