@@ -10,7 +10,7 @@ use Rattle.reader.specs.declared.place.Reader.{Reader}
 use Rattle.reader.specs.Places.{met, Read}
 use Rattle.reader.specs.Parts.{items_of, TagsRead, OwnRead}
 use Rattle.reader.proofs.Chains.{read}
-use Rattle.reader.proofs.Named.{only_one}
+use Rattle.reader.proofs.Values.{only_one}
 
 -- items before those of what was read
 pub more_items : {X : Type 0} (is : List Item) (f : X → List Item) (r : Result X Fault) → more is (items_of f r) ≡ items_of (λ x. is ++ f x) r

@@ -1,7 +1,7 @@
 pub mod Bridge
 pub mod Lones
 pub mod Masks
-pub mod Named
+pub mod Values
 pub mod Loops
 pub mod Chains
 pub mod Ends

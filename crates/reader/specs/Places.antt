@@ -8,11 +8,7 @@ use Rattle.grammar.specs.Bits.{bits}
 use Rattle.grammar.specs.Grammar.{Grammar, Item, outcome, more, fault, from_to}
 use Rattle.boards.specs.declared.Set.{Set}
 use Rattle.boards.specs.Boards.{only}
-use Rattle.wire.specs.declared.kind.Kind.{Kind}
-use Rattle.wire.specs.declared.message.Sort.{Sort}
 use Rattle.wire.specs.Fields.{lone}
-use Rattle.wire.specs.Kinds.{kind_number}
-use Rattle.wire.specs.Messages.{sort_number}
 use Rattle.reader.specs.declared.place.Reader.{Reader}
 use Rattle.reader.specs.declared.place.Whole.{Whole}
 
@@ -86,15 +82,6 @@ Refused w ok s e = (k : ℕ → Grammar) → met (Grammar.field w ok k) s ≡ Er
 abbrev pub ValueRead : ℕ → ℕ → ℕ → Reader → Result ℕ Fault → Reader → Type 0
 ValueRead w a b s (Ok v) t = Read w (from_to a b) s v t
 ValueRead w a b s (Err e) t = Refused w (from_to a b) s e
-
--- A kind, and a sort.
-abbrev pub KindRead : Reader → Result Kind Fault → Reader → Type 0
-KindRead s (Ok k) t = Read 4 (from_to 1 13) s (kind_number k) t
-KindRead s (Err e) t = Refused 4 (from_to 1 13) s e
-
-abbrev pub SortRead : Reader → Result Sort Fault → Reader → Type 0
-SortRead s (Ok k) t = Read 3 (from_to 0 1) s (sort_number k) t
-SortRead s (Err e) t = Refused 3 (from_to 0 1) s e
 
 -- A set from a to b, and a set of one board.
 abbrev pub SetRead : ℕ → ℕ → Reader → Result (Set × Whole) Fault → Type 0

@@ -3,13 +3,11 @@
 ghost use Rattle.std.specs.Prelude.{◌≡◌, ◌+◌, ◌*◌, ◌≤◌, length};
 ghost use Rattle.grammar.specs.declared.fault.Layer.TheVariants.{Bytes as BytesLayer, Field as FieldLayer};
 ghost use Rattle.grammar.specs.Grammar.{fault};
-ghost use Rattle.reader.specs.Places.{at, Begun, Moved, NumberAt, ValueRead, KindRead, SortRead};
+ghost use Rattle.reader.specs.Places.{at, Begun, Moved, NumberAt, ValueRead};
 
-use crate::field::{Field, KIND, SORT};
+use crate::field::Field;
 use crate::place::Reader;
 use grammar::fault::{Fault, Layer};
-use wire::kind::Kind;
-use wire::message::Sort;
 
 impl<'a> Reader<'a> {
     pub(crate) fn new(src: &'a [u8]) -> Reader<'a>
@@ -76,25 +74,5 @@ impl<'a> Reader<'a> {
         }
         self.skip(field);
         Ok(v)
-    }
-
-    pub(crate) fn kind(&mut self) -> Result<Kind, Fault>
-        ensures { KindRead self.old result self.new }
-    {
-        let Ok(kind) = Kind::try_from(self.number(KIND)?) else {
-            return Err(self.refused());
-        };
-        self.skip(KIND);
-        Ok(kind)
-    }
-
-    pub(crate) fn sort(&mut self) -> Result<Sort, Fault>
-        ensures { SortRead self.old result self.new }
-    {
-        let Ok(sort) = Sort::try_from(self.number(SORT)?) else {
-            return Err(self.refused());
-        };
-        self.skip(SORT);
-        Ok(sort)
     }
 }

@@ -2,7 +2,7 @@
 // Format: docs/FRAMES.md, "Kinds".
 ghost use Rattle.reader.specs.Parts.{ChangeRead, RankRead, GradedRead, CarriedRead};
 
-use crate::field::{CHANGE, END_LENGTH, NUMBER, RANK, REPORT_LENGTH, SENDER, ZERO, ZEROS};
+use crate::field::{CHANGE, END_LENGTH, NUMBER, RANK, REPORT_LENGTH, SENDER, SORT, ZERO, ZEROS};
 use crate::place::{Half, Whole};
 use grammar::fault::Fault;
 use wire::message::{Content, Sort};
@@ -52,7 +52,7 @@ impl<'a> Half<'a> {
         let mut reader = self.reader;
         let sender = reader.value(SENDER)?;
         let number = reader.value(NUMBER)?;
-        let sort = reader.sort()?;
+        let sort = Sort::try_from(reader.value(SORT)?).unwrap();
         let length = reader.value(match sort {
             Sort::Report => REPORT_LENGTH,
             Sort::End => END_LENGTH,

@@ -4,7 +4,7 @@ ghost use Rattle.wire.specs.Kinds.{kind_number};
 ghost use Rattle.wire.specs.Reads.{Reads};
 ghost use Rattle.reader.specs.Told.{told, OpeningRead, BodyRead};
 
-use crate::field::VIEW;
+use crate::field::{KIND, VIEW};
 use crate::heads::Graded;
 use crate::parts::{Answer, Spoken};
 use crate::place::{Half, Reader};
@@ -24,7 +24,7 @@ fn start(bytes: &[u8]) -> Result<Opening<'_>, Fault>
     ensures { OpeningRead bytes.now result }
 {
     let mut reader = Reader::new(bytes);
-    let kind = reader.kind()?;
+    let kind = Kind::try_from(reader.value(KIND)?).unwrap();
     let view = reader.value(VIEW)?;
     Ok(Opening {
         kind,

@@ -1,7 +1,7 @@
 use Rattle.std.proofs.Common.{◌≡◌, cond, eqb, ◌∙◌, arith}
 use Rattle.std.proofs.lemmas.Bool.Decides.{nat_tests}
 use Rattle.reader.proofs.Loops.{entered_by}
-use Rattle.reader.proofs.Named.{only_one, same_field}
+use Rattle.reader.proofs.Values.{only_one, same_field}
 use Rattle.reader.proofs.place.Whole.answer.Goals as goal
 use Rattle.reader.proofs.place.Whole.answer.Goals.{then-earlier-eq0, else-earlier-eq0}
 
