@@ -58,7 +58,7 @@ got_number {s} {w} {v} o h g =
     let c0 : get_or cs 0 0 ≡ get_or (src s) s.byte 0 = get_or-drop s.byte (src s) 0 0 ∙ ap (λ i. get_or (src s) i 0) (add-zero s.byte) in
     let c1 : get_or cs 1 0 ≡ get_or (src s) (s.byte + 1) 0 = get_or-drop s.byte (src s) 1 0 in
     let long : s.bit + w ≤ 8 * length cs = simp length-drop (omega (arith, s.inside, g.inside)) in
-    let n = number_at cs s.bit w o long (omega (arith, s.small)) (omega (arith, c1, g.next)) in
+    let n = number_at cs s.bit w o long (omega (arith, s.small)) (omega (arith, c1, s.fit (s.byte + 1))) in
     g.value ∙ (λ i. pair (src s) (q i) / 2 ^ (16 - (r i + w)) % 2 ^ w)
     ∙ (λ i. (sym c0 i * 256 + sym c1 i) / 2 ^ (16 - (s.bit + w)) % 2 ^ w) ∙ sym n ∙ ap (λ l. number_of (take w l)) (sym (left_bits s))
 
@@ -75,7 +75,6 @@ got_on {s} {t} {w} {v} ok o h g m e =
       on = λ k. field_good w ok k bs (at s) (omega (arith, left_long s, g.inside)) (ap ok (sym n) ∙ e)
           ∙ (λ i. more (Item.num w (sym n i) ∷ []) (outcome (k (sym n i)) (d i) (sym m.1 i)));
       allowed = e;
-      below = g.below;
       moved = m.1;
       found = (g.value, m.0);
     }

@@ -37,5 +37,4 @@ got_pair s w high low p h i e f g =
       inside = i;
       value = masked _ w small ∙ (λ j. both j / 2 ^ (16 - (s.bit + w)) % 2 ^ w) ∙ (λ j. pair (src s) (sym q j) / 2 ^ (16 - (sym r j + w)) % 2 ^ w);
       below = masked_below _ w small;
-      next = s.fit (s.byte + 1);
     }

@@ -23,11 +23,10 @@ src r = r.src.now
 unfoldable pub met : Grammar → Reader → Result (List Item) Fault
 met g r = outcome g (drop (at r) (bits (src r))) (at r)
 
--- A reader at the first bit.
+-- A reader at the first bit of these bytes.
 pub record Begun (bs : List ℕ) (r : Reader) : Type 0 where
   pub on : (g : Grammar) → outcome g (bits bs) 0 ≡ met g r
   pub place : at r ≡ 0
-  pub fit : (i : ℕ) → slice_index bs i < 256
 
 -- Bits are missing, and a value is not allowed.
 abbrev pub missing : Reader → Fault
@@ -56,7 +55,6 @@ pub record Got (s : Reader) (w v : ℕ) : Type 0 where
   pub inside : at s + w ≤ 8 * length (src s)
   pub value : v ≡ field_at (src s) (at s) w
   pub below : v < 2 ^ w
-  pub next : slice_index (src s) (s.byte + 1) < 256
 
 abbrev pub NumberAt : Reader → ℕ → Result ℕ Fault → Type 0
 NumberAt s w (Ok v) = Got s w v
@@ -70,7 +68,6 @@ Moved s w t = (src t ≡ src s) × (at t ≡ at s + w)
 pub record Read (w : ℕ) (ok : ℕ → Bool) (s : Reader) (v : ℕ) (t : Reader) : Type 0 where
   pub on : (k : ℕ → Grammar) → met (Grammar.field w ok k) s ≡ more (Item.num w v ∷ []) (met (k v) t)
   pub allowed : ok v ≡ true
-  pub below : v < 2 ^ w
   pub moved : at t ≡ at s + w
   pub found : Found s w v t
 

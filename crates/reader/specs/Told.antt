@@ -18,14 +18,11 @@ abbrev pub told : Result Message Fault → Result Msg Fault
 told (Ok m) = Ok (meaning m)
 told (Err e) = Err e
 
--- Kind and view were passed.
-pub record Opened (bs : List ℕ) (o : Opening) : Type 0 where
-  pub on : (k : ℕ → Grammar) → outcome (Grammar.field 4 (from_to 1 13) (λ n. view (k n))) (bits bs) 0 ≡ more (Item.num 4 (kind_number o.kind) ∷ Item.num 8 o.view ∷ []) (met (k (kind_number o.kind)) o.head.reader)
-  pub fit : (i : ℕ) → slice_index bs i < 256
-
--- Kind and view were read.
+-- Kind and view were read, whatever comes after them.
 abbrev pub OpeningRead : List ℕ → Result Opening Fault → Type 0
-OpeningRead bs (Ok o) = Opened bs o
+OpeningRead bs (Ok o) =
+    (k : ℕ → Grammar)
+    → outcome (Grammar.field 4 (from_to 1 13) (λ n. view (k n))) (bits bs) 0 ≡ more (Item.num 4 (kind_number o.kind) ∷ Item.num 8 o.view ∷ []) (met (k (kind_number o.kind)) o.head.reader)
 OpeningRead bs (Err e) = outcome message (bits bs) 0 ≡ Err e
 
 -- What follows kind and view was read.

@@ -6,4 +6,4 @@ pub returns-in_err-kind : goal.returns-in_err-kind
 returns-in_err-kind c = let p = err_from_is_err_and c.from_residual.result c.from_residual.ensures.1 in rw (p.1, p.2) (so _ _ c.in_err-kind.ensures)
 
 pub returns : goal.returns
-returns c = finish _ c.in_ok-kind.ensures c.body.ensures
+returns c = finish c.args.bytes.now c.in_ok-kind.field-0 _ (λ i. (c.type_inv.bytes i).fits) c.in_ok-kind.ensures c.body.ensures
