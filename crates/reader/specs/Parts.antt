@@ -32,16 +32,19 @@ abbrev pub PartOf : {X : Type 0} → (Grammar → Grammar) → (X → List Item)
 PartOf F f s (Ok x) = Passed F (f x.0) s x.1.reader
 PartOf F f s (Err e) = (k : Grammar) → met (F k) s ≡ Err e
 
--- The rest of the heads of kinds 1 and 2, 3 to 6, 7 to 10, and 11 to 13.
+-- The rest of a head in kinds 1 and 2: a 0 bit and the change.
 abbrev pub ChangeRead : Reader → Result (ℕ × Whole) Fault → Type 0
 ChangeRead s r = PartOf (λ k. zeros 1 (change k)) (λ c. Item.num 1 0 ∷ Item.num 3 c ∷ []) s r
 
+-- In kinds 3 to 6: rank and change.
 abbrev pub GradedRead : Reader → Result (Graded × Whole) Fault → Type 0
 GradedRead s r = PartOf graded (λ x. graded_values x.rank x.change []) s r
 
+-- In kinds 7 to 10: the rank.
 abbrev pub RankRead : Reader → Result (ℕ × Whole) Fault → Type 0
 RankRead s r = PartOf rank (λ n. Item.num 4 n ∷ []) s r
 
+-- In kinds 11 to 13: what they carry.
 abbrev pub CarriedRead : Reader → Result (Content × Whole) Fault → Type 0
 CarriedRead s (Ok x) = PassedBy carried x.0.sender (content_values x.0.sender x.0.number x.0.sort x.0.payload.now []) s x.1.reader
 CarriedRead s (Err e) = (k : ℕ → Grammar) → met (carried k) s ≡ Err e
@@ -50,6 +53,7 @@ CarriedRead s (Err e) = (k : ℕ → Grammar) → met (carried k) s ≡ Err e
 abbrev pub reply : Answer → Reply
 reply x = record { entry = x.entry; tag = x.tag.now }
 
+-- The items of a reply.
 abbrev pub items : Reply → List Item
 items e = reply_values e []
 
@@ -60,6 +64,7 @@ pub record Entered (x : Answer) (s t : Reader) : Type 0 where
   pub same : src t ≡ src s
   pub moved : t.byte ≡ s.byte + 9
 
+-- An entry and its tag.
 abbrev pub AnswerRead : Reader → Result (Answer × Whole) Fault → Type 0
 AnswerRead s (Ok x) = Entered x.0 s x.1.reader
 AnswerRead s (Err f) = (k : ℕ → Grammar) → met (entered k) s ≡ Err f
@@ -68,14 +73,16 @@ AnswerRead s (Err f) = (k : ℕ → Grammar) → met (entered k) s ≡ Err f
 pub record All (n : ℕ) (es : Entries) (top : ℕ) (s t : Reader) : Type 0 where
   pub on : (b : ℕ) (k : ℕ → Grammar) → met (entries n 0 k) s ≡ more (replies_values (replies_of b es)) (met (k top) t)
 
+-- Entries of n boards, with their tags.
 abbrev pub EntriesRead : ℕ → Reader → Result (Entries × ℕ × Whole) Fault → Type 0
 EntriesRead n s (Ok x) = All n x.0 x.1 s x.2.reader
 EntriesRead n s (Err f) = (k : ℕ → Grammar) → met (entries n 0 k) s ≡ Err f
 
--- Any set, and the entries of its boards.
+-- The format of any set and the entries of its boards.
 abbrev pub replied : (ℕ → Grammar) → Grammar
 replied k = Grammar.field 8 (from_to 0 255) (λ s. entries (size s) 0 k)
 
+-- Any set and the entries of its boards.
 abbrev pub RepliesRead : Reader → Result (Replies × ℕ × Whole) Fault → Type 0
 RepliesRead s (Ok x) = PassedBy replied x.1 (Item.num 8 x.0.set.bits ∷ replies_values (replies_by x.0)) s x.2.reader
 RepliesRead s (Err f) = (k : ℕ → Grammar) → met (replied k) s ≡ Err f
@@ -93,15 +100,18 @@ TagsRead n s r = (b : ℕ) → met (Grammar.part (8 * n) (λ _. Grammar.done)) s
 abbrev pub tagged_values : Tagged → List Item
 tagged_values q = set_values q.set.bits (tags_by q)
 
--- The ends of messages: a speaker and its tag, a board's own tag, a set from a to b and its tags, a proof.
+-- The end of a message: a speaker and its tag.
 abbrev pub SpokenRead : Reader → Result Spoken Fault → Type 0
 SpokenRead s r = met (lone_tag Grammar.done) s ≡ items_of (λ x. set_values (only x.speaker) (tags_of (only x.speaker) x.tag)) r
 
+-- The end of a message: board b and its tag.
 abbrev pub OwnRead : ℕ → Reader → Result Tags Fault → Type 0
 OwnRead b s r = met (own_tag b) s ≡ items_of (λ t. set_values (only b) (tags_of (only b) t)) r
 
+-- The end of a message: a set whose byte is from a to b, and its tags.
 abbrev pub TaggedRead : ℕ → ℕ → Reader → Result Tagged Fault → Type 0
 TaggedRead a b s r = met (Grammar.field 8 (from_to a b) (λ n. Grammar.part (8 * size n) (λ _. Grammar.done))) s ≡ items_of tagged_values r
 
+-- The end of a message: a proof beside this highest earlier rank.
 abbrev pub ProofRead : ℕ → Reader → Result Tagged Fault → Type 0
 ProofRead e s r = met (proof e Grammar.done) s ≡ items_of tagged_values r

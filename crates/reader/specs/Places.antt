@@ -16,6 +16,7 @@ use Rattle.reader.specs.declared.place.Whole.{Whole}
 abbrev pub at : Reader → ℕ
 at r = 8 * r.byte + r.bit
 
+-- The bytes that it reads.
 abbrev pub src : Reader → List ℕ
 src r = r.src.now
 
@@ -28,10 +29,11 @@ pub record Begun (bs : List ℕ) (r : Reader) : Type 0 where
   pub on : (g : Grammar) → outcome g (bits bs) 0 ≡ met g r
   pub place : at r ≡ 0
 
--- Bits are missing, and a value is not allowed.
+-- The fault of bits that are missing.
 abbrev pub missing : Reader → Fault
 missing r = fault Bytes (length (src r))
 
+-- The fault of a value that is not allowed.
 abbrev pub refused : Reader → Fault
 refused r = fault Field r.byte
 
@@ -43,10 +45,11 @@ pair bs i = slice_index bs i * 256 + slice_index bs (i + 1)
 abbrev pub field_at : List ℕ → ℕ → ℕ → ℕ
 field_at bs p w = pair bs (p / 8) / 2 ^ (16 - (p % 8 + w)) % 2 ^ w
 
--- Where the number stands; shut, so that a search that has no use for it passes it by.
+-- Where a field's number stands. This and the next are shut, so that a search that has no use for them passes them by.
 unfoldable pub Found : Reader → ℕ → ℕ → Reader → Type 0
 Found s w v t = (v ≡ field_at (src s) (at s) w) × (src t ≡ src s)
 
+-- Where n bytes stand.
 unfoldable pub Cut : Reader → ℕ → List ℕ → Reader → Type 0
 Cut s n xs t = (xs ≡ take n (drop s.byte (src s))) × (src t ≡ src s)
 
@@ -56,6 +59,7 @@ pub record Got (s : Reader) (w v : ℕ) : Type 0 where
   pub value : v ≡ field_at (src s) (at s) w
   pub below : v < 2 ^ w
 
+-- That number was found, or the bytes end before it does.
 abbrev pub NumberAt : Reader → ℕ → Result ℕ Fault → Type 0
 NumberAt s w (Ok v) = Got s w v
 NumberAt s w (Err e) = (8 * length (src s) < at s + w) × (e ≡ missing s)
@@ -80,27 +84,29 @@ abbrev pub ValueRead : ℕ → ℕ → ℕ → Reader → Result ℕ Fault → R
 ValueRead w a b s (Ok v) t = Read w (from_to a b) s v t
 ValueRead w a b s (Err e) t = Refused w (from_to a b) s e
 
--- A set from a to b, and a set of one board.
+-- A set whose byte is from a to b.
 abbrev pub SetRead : ℕ → ℕ → Reader → Result (Set × Whole) Fault → Type 0
 SetRead a b s (Ok x) = Read 8 (from_to a b) s x.0.bits x.1.reader
 SetRead a b s (Err e) = Refused 8 (from_to a b) s e
 
+-- A set of just one board, read as the board.
 abbrev pub LoneRead : Reader → Result (ℕ × Whole) Fault → Type 0
 LoneRead s (Ok x) = Read 8 lone s (only x.0) x.1.reader
 LoneRead s (Err e) = Refused 8 lone s e
 
--- Whole bytes, n of them.
+-- Whole bytes were read, n of them, and the place moved.
 pub record Part (n : ℕ) (s : Reader) (v : Bor (List ℕ)) (t : Reader) : Type 0 where
   pub on : (k : List ℕ → Grammar) → met (Grammar.part n k) s ≡ more (Item.raw v.now ∷ []) (met (k v.now) t)
   pub moved : at t ≡ at s + 8 * n
   pub long : length v.now ≡ n
   pub found : Cut s n v.now t
 
+-- Whole bytes, n of them.
 abbrev pub PartRead : ℕ → Reader → Result (Bor (List ℕ) × Whole) Fault → Type 0
 PartRead n s (Ok x) = Part n s x.0 x.1.reader
 PartRead n s (Err e) = (k : List ℕ → Grammar) → met (Grammar.part n k) s ≡ Err e
 
--- The end.
+-- Nothing more.
 abbrev pub Ended : Reader → Result (Unit {0}) Fault → Type 0
 Ended s (Ok u) = met Grammar.done s ≡ Ok []
 Ended s (Err e) = met Grammar.done s ≡ Err e

@@ -1,6 +1,6 @@
 -- What reading tells, in terms of the format: `Reads` of the format speaks of plain messages, `told` brings the program's answer there.
 -- OpeningRead speaks of kind and view, BodyRead of what follows them.
-use Rattle.std.specs.Prelude.{◌≡◌, ℕ, ◌<◌, List, [], ◌∷◌, Ok, Err, Result, slice_index}
+use Rattle.std.specs.Prelude.{◌≡◌, ℕ, List, [], ◌∷◌, Ok, Err, Result}
 use Rattle.grammar.specs.declared.fault.Fault.{Fault}
 use Rattle.grammar.specs.Bits.{bits}
 use Rattle.grammar.specs.Grammar.{Grammar, Item, outcome, more, from_to}

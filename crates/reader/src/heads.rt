@@ -52,6 +52,7 @@ impl<'a> Half<'a> {
         let mut reader = self.reader;
         let sender = reader.value(SENDER)?;
         let number = reader.value(NUMBER)?;
+        // The field of sorts has no number but those of sorts.
         let sort = Sort::try_from(reader.value(SORT)?).unwrap();
         let length = reader.value(match sort {
             Sort::Report => REPORT_LENGTH,

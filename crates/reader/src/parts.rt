@@ -146,6 +146,7 @@ impl<'a> Whole<'a> {
     {
         let mut rest = self;
         let mut highest = 0;
+        // A `for`: in a `try_fold` each turn would take a pair of reader and maximum apart and make it again.
         for _ in 0..n {
             let (answer, after) = rest.answer()?;
             highest = highest.max(answer.entry.earlier);

@@ -12,6 +12,13 @@ use grammar::fault::Fault;
 use wire::kind::Kind;
 use wire::message::{Message, Tags};
 
+pub fn read<'a>(bytes: &'a [u8]) -> Result<Message<'a>, Fault>
+    ensures { Reads bytes.now (told result) }
+{
+    let Opening { kind, view, head } = start(bytes)?;
+    body(kind, view, head)
+}
+
 // How every message begins.
 #[derive(Clone, Copy)]
 pub struct Opening<'a> {
@@ -20,6 +27,7 @@ pub struct Opening<'a> {
     pub head: Half<'a>,
 }
 
+// Kind and view: the field of kinds has no number but those of kinds.
 fn start(bytes: &[u8]) -> Result<Opening<'_>, Fault>
     ensures { OpeningRead bytes.now result }
 {
@@ -156,11 +164,4 @@ fn body<'a>(kind: Kind, view: u8, head: Half<'a>) -> Result<Message<'a>, Fault>
             Ok(Message::Commit { view, content, by })
         }
     }
-}
-
-pub fn read<'a>(bytes: &'a [u8]) -> Result<Message<'a>, Fault>
-    ensures { Reads bytes.now (told result) }
-{
-    let Opening { kind, view, head } = start(bytes)?;
-    body(kind, view, head)
 }

@@ -1,4 +1,4 @@
-use Rattle.std.proofs.Common.{[], ◌∷◌, ap, ◌∙◌}
+use Rattle.std.proofs.Common.{[], ◌∷◌, ap}
 use Rattle.std.proofs.lemmas.Result.{err_from_is_err_and}
 use Rattle.grammar.specs.Grammar.{Grammar, Item, more}
 use Rattle.wire.specs.Fields.{proof}
@@ -14,6 +14,11 @@ pub returns-in_err-change-in-Suggest : goal.returns-in_err-change-in-Suggest
 returns-in_err-change-in-Suggest c =
     let p = err_from_is_err_and c.from_residual-in_err-change-in-Suggest.result c.from_residual-in_err-change-in-Suggest.ensures.1 in
     rw (p.1, p.2, c.in-Suggest.is) (c.in_err-change-in-Suggest.ensures _)
+
+pub returns-in_err-by-in-Suggest : goal.returns-in_err-by-in-Suggest
+returns-in_err-by-in-Suggest c =
+    let p = err_from_is_err_and c.from_residual-in_err-by-in-Suggest.result c.from_residual-in_err-by-in-Suggest.ensures.1 in
+    rw (p.1, p.2, c.in-Suggest.is) (passed _ c.in_ok-change-in-Suggest.ensures _ c.in_err-by-in-Suggest.ensures)
 
 pub returns-in_err-rank-in-Ack : goal.returns-in_err-rank-in-Ack
 returns-in_err-rank-in-Ack c =
