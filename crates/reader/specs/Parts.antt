@@ -32,6 +32,11 @@ abbrev pub PartOf : {X : Type 0} → (Grammar → Grammar) → (X → List Item)
 PartOf F f s (Ok x) = Passed F (f x.0) s x.1.reader
 PartOf F f s (Err e) = (k : Grammar) → met (F k) s ≡ Err e
 
+-- The same where what comes after it may depend on a number n of it.
+abbrev pub PartBy : {X : Type 0} → ((ℕ → Grammar) → Grammar) → (X → ℕ) → (X → List Item) → Reader → Result (X × Whole) Fault → Type 0
+PartBy F n f s (Ok x) = PassedBy F (n x.0) (f x.0) s x.1.reader
+PartBy F n f s (Err e) = (k : ℕ → Grammar) → met (F k) s ≡ Err e
+
 -- The rest of a head in kinds 1 and 2: a 0 bit and the change.
 abbrev pub ChangeRead : Reader → Result (ℕ × Whole) Fault → Type 0
 ChangeRead s r = PartOf (λ k. zeros 1 (change k)) (λ c. Item.num 1 0 ∷ Item.num 3 c ∷ []) s r
@@ -46,8 +51,7 @@ RankRead s r = PartOf rank (λ n. Item.num 4 n ∷ []) s r
 
 -- In kinds 11 to 13: what they carry.
 abbrev pub CarriedRead : Reader → Result (Content × Whole) Fault → Type 0
-CarriedRead s (Ok x) = PassedBy carried x.0.sender (content_values x.0.sender x.0.number x.0.sort x.0.payload.now []) s x.1.reader
-CarriedRead s (Err e) = (k : ℕ → Grammar) → met (carried k) s ≡ Err e
+CarriedRead s r = PartBy carried (λ x. x.sender) (λ x. content_values x.sender x.number x.sort x.payload.now []) s r
 
 -- A reply as read.
 abbrev pub reply : Answer → Reply
@@ -74,8 +78,8 @@ pub record All (n : ℕ) (es : Entries) (top : ℕ) (s t : Reader) : Type 0 wher
   pub on : (b : ℕ) (k : ℕ → Grammar) → met (entries n 0 k) s ≡ more (replies_values (replies_of b es)) (met (k top) t)
 
 -- Entries of n boards, with their tags.
-abbrev pub EntriesRead : ℕ → Reader → Result (Entries × ℕ × Whole) Fault → Type 0
-EntriesRead n s (Ok x) = All n x.0 x.1 s x.2.reader
+abbrev pub EntriesRead : ℕ → Reader → Result ((Entries × ℕ) × Whole) Fault → Type 0
+EntriesRead n s (Ok x) = All n x.0.0 x.0.1 s x.1.reader
 EntriesRead n s (Err f) = (k : ℕ → Grammar) → met (entries n 0 k) s ≡ Err f
 
 -- The format of any set and the entries of its boards.
@@ -83,9 +87,8 @@ abbrev pub replied : (ℕ → Grammar) → Grammar
 replied k = Grammar.field 8 (from_to 0 255) (λ s. entries (size s) 0 k)
 
 -- Any set and the entries of its boards.
-abbrev pub RepliesRead : Reader → Result (Replies × ℕ × Whole) Fault → Type 0
-RepliesRead s (Ok x) = PassedBy replied x.1 (Item.num 8 x.0.set.bits ∷ replies_values (replies_by x.0)) s x.2.reader
-RepliesRead s (Err f) = (k : ℕ → Grammar) → met (replied k) s ≡ Err f
+abbrev pub RepliesRead : Reader → Result ((Replies × ℕ) × Whole) Fault → Type 0
+RepliesRead s r = PartBy replied (λ x. x.1) (λ x. Item.num 8 x.0.set.bits ∷ replies_values (replies_by x.0)) s r
 
 -- The items of what was read up to the end of a message, or the fault.
 abbrev pub items_of : {X : Type 0} → (X → List Item) → Result X Fault → Result (List Item) Fault

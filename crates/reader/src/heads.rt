@@ -3,8 +3,7 @@
 ghost use Rattle.reader.specs.Parts.{ChangeRead, RankRead, GradedRead, CarriedRead};
 
 use crate::field::{CHANGE, END_LENGTH, NUMBER, RANK, REPORT_LENGTH, SENDER, SORT, ZERO, ZEROS};
-use crate::place::{Half, Whole};
-use grammar::fault::Fault;
+use crate::place::{Half, Reading, Whole};
 use wire::message::{Content, Sort};
 
 // What kinds 3 to 6 speak of.
@@ -16,7 +15,7 @@ pub struct Graded {
 
 impl<'a> Half<'a> {
     // The change, in kinds 1 and 2.
-    pub(crate) fn change(self) -> Result<(u8, Whole<'a>), Fault>
+    pub(crate) fn change(self) -> Reading<'a, u8>
         ensures { ChangeRead self.entry.reader result }
     {
         let mut reader = self.reader;
@@ -26,7 +25,7 @@ impl<'a> Half<'a> {
     }
 
     // Rank and change, in kinds 3 to 6.
-    pub(crate) fn graded(self) -> Result<(Graded, Whole<'a>), Fault>
+    pub(crate) fn graded(self) -> Reading<'a, Graded>
         ensures { GradedRead self.entry.reader result }
     {
         let mut reader = self.reader;
@@ -37,7 +36,7 @@ impl<'a> Half<'a> {
     }
 
     // The rank, in kinds 7 to 10.
-    pub(crate) fn rank(self) -> Result<(u8, Whole<'a>), Fault>
+    pub(crate) fn rank(self) -> Reading<'a, u8>
         ensures { RankRead self.entry.reader result }
     {
         let mut reader = self.reader;
@@ -46,7 +45,7 @@ impl<'a> Half<'a> {
     }
 
     // What kinds 11 to 13 carry.
-    pub(crate) fn carried(self) -> Result<(Content<'a>, Whole<'a>), Fault>
+    pub(crate) fn carried(self) -> Reading<'a, Content<'a>>
         ensures { CarriedRead self.entry.reader result }
     {
         let mut reader = self.reader;

@@ -4,7 +4,7 @@ ghost use Rattle.reader.specs.Places.{Ended, LoneRead, PartRead, SetRead};
 ghost use Rattle.reader.specs.Parts.{AnswerRead, EntriesRead, TagsRead, SpokenRead, OwnRead, TaggedRead, ProofRead, RepliesRead};
 
 use crate::field::{CHANGE, EARLIER, SET, ZERO};
-use crate::place::Whole;
+use crate::place::{Reading, Whole};
 use boards::Set;
 use grammar::fault::{Fault, Layer};
 use wire::message::{Entries, Entry, Replies, Tagged, Tags};
@@ -25,7 +25,7 @@ pub struct Answer<'a> {
 
 impl<'a> Whole<'a> {
     // Some bytes, as a part of what is read.
-    pub(crate) fn bytes(self, n: usize) -> Result<(&'a [u8], Whole<'a>), Fault>
+    pub(crate) fn bytes(self, n: usize) -> Reading<'a, &'a [u8]>
         ensures { PartRead n self.entry.reader result }
     {
         let mut reader = self.reader;
@@ -37,7 +37,7 @@ impl<'a> Whole<'a> {
     }
 
     // A set whose byte is from `least` to `most`.
-    fn set(self, least: u8, most: u8) -> Result<(Set, Whole<'a>), Fault>
+    fn set(self, least: u8, most: u8) -> Reading<'a, Set>
         ensures { SetRead least most self.entry.reader result }
     {
         let mut reader = self.reader;
@@ -46,7 +46,7 @@ impl<'a> Whole<'a> {
     }
 
     // A set of just one board; answers the board.
-    pub(crate) fn lone(self) -> Result<(u8, Whole<'a>), Fault>
+    pub(crate) fn lone(self) -> Reading<'a, u8>
         ensures { LoneRead self.entry.reader result }
     {
         let mut reader = self.reader;
@@ -127,7 +127,7 @@ impl<'a> Whole<'a> {
     }
 
     // An entry and the tag that it precedes: no change without an earlier rank.
-    pub(crate) fn answer(self) -> Result<(Answer<'a>, Whole<'a>), Fault>
+    pub(crate) fn answer(self) -> Reading<'a, Answer<'a>>
         ensures { AnswerRead self.entry.reader result }
     {
         let mut reader = self.reader;
@@ -141,7 +141,7 @@ impl<'a> Whole<'a> {
     }
 
     // As many entries as a set has boards, and the highest earlier rank among them.
-    fn entries(self, n: u8) -> Result<(Entries<'a>, u8, Whole<'a>), Fault>
+    fn entries(self, n: u8) -> Reading<'a, (Entries<'a>, u8)>
         ensures { EntriesRead n self.entry.reader result }
     {
         let mut rest = self;
@@ -153,15 +153,15 @@ impl<'a> Whole<'a> {
             rest = after;
         }
         let bytes = &self.reader.src[self.reader.byte..rest.reader.byte];
-        Ok((Entries::Heard(bytes), highest, rest))
+        Ok(((Entries::Heard(bytes), highest), rest))
     }
 
     // Any set, with its boards' entries, and the highest earlier rank among them.
-    pub(crate) fn replies(self) -> Result<(Replies<'a>, u8, Whole<'a>), Fault>
+    pub(crate) fn replies(self) -> Reading<'a, (Replies<'a>, u8)>
         ensures { RepliesRead self.entry.reader result }
     {
         let (set, rest) = self.set(0, 255)?;
-        let (entries, highest, rest) = rest.entries(set.len())?;
-        Ok((Replies { set, entries }, highest, rest))
+        let ((entries, highest), rest) = rest.entries(set.len())?;
+        Ok(((Replies { set, entries }, highest), rest))
     }
 }

@@ -2,6 +2,8 @@
 // How much is known of the place is the reader's type: any bit, between the halves of a byte, or between two bytes.
 ghost use Rattle.std.specs.Prelude.{◌≡◌, ℕ, ◌<◌, ◌≤◌, length, slice_index};
 
+use grammar::fault::Fault;
+
 #[derive(Clone, Copy)]
 pub struct Reader<'a> {
     pub src: &'a [u8],
@@ -25,3 +27,6 @@ pub struct Whole<'a> {
     pub reader: Reader<'a>,
     ghost whole: { reader.bit ≡ 0 },
 }
+
+// What was read, and where the rest begins; or why it could not be.
+pub(crate) type Reading<'a, T> = Result<(T, Whole<'a>), Fault>;

@@ -134,7 +134,7 @@ fn body<'a>(kind: Kind, view: u8, head: Half<'a>) -> Result<Message<'a>, Fault>
         }
         Kind::SuggestLast => {
             let (rank, rest) = head.rank()?;
-            let (replies, highest, rest) = rest.replies()?;
+            let ((replies, highest), rest) = rest.replies()?;
             let proof = rest.proof(highest)?;
             Ok(Message::SuggestLast {
                 view,
