@@ -50,12 +50,14 @@ impl<'a> Whole<'a> {
         ensures { LoneRead self.entry.reader result }
     {
         let mut reader = self.reader;
-        let set = reader.number(SET)?;
-        if set.count_ones() != 1 {
+        let set = Set {
+            bits: reader.number(SET)?,
+        };
+        if set.len() != 1 {
             return Err(reader.refused());
         }
         reader.skip(SET);
-        Ok((set.leading_zeros() as u8, Whole { reader }))
+        Ok((set.at(1).unwrap(), Whole { reader }))
     }
 
     // Nothing more.
