@@ -1,13 +1,11 @@
 -- One part after another: what the format says of the bytes left, carried over each step.
 -- A chain of these is the proof of one kind.
-use Rattle.std.proofs.Common.{◌≡◌, ℕ, Bool, List, [], ◌∷◌, Result, ap, ◌∙◌, Bor}
+use Rattle.std.proofs.Common.{◌≡◌, ℕ, Bool, List, [], ◌∷◌, Result, ap, ◌∙◌}
 use Rattle.grammar.specs.declared.fault.Fault.{Fault}
 use Rattle.grammar.specs.Grammar.{Grammar, Item, more}
 use Rattle.reader.specs.declared.place.Reader.{Reader}
-use Rattle.reader.specs.Places.{met, Read, Part}
-use Rattle.reader.specs.declared.parts.Answer.{Answer}
-use Rattle.wire.specs.Fields.{entered}
-use Rattle.reader.specs.Parts.{Passed, PassedBy, Entered, items, reply}
+use Rattle.reader.specs.Places.{met, Read}
+use Rattle.reader.specs.Parts.{Passed, PassedBy}
 
 pub passed : {F : Grammar → Grammar} {is : List Item} {s t : Reader} (o : Result (List Item) Fault) → Passed F is s t → (k : Grammar) → met k t ≡ o → met (F k) s ≡ more is o
 passed {F} {is} o h k e = h.on k ∙ ap (more is) e
@@ -17,9 +15,3 @@ passed_by {F} {x} {is} o h k e = h.on k ∙ ap (more is) e
 
 pub read : {w v : ℕ} {ok : ℕ → Bool} {s t : Reader} (o : Result (List Item) Fault) → Read w ok s v t → (k : ℕ → Grammar) → met (k v) t ≡ o → met (Grammar.field w ok k) s ≡ more (Item.num w v ∷ []) o
 read {w} {v} o h k e = h.on k ∙ ap (more (Item.num w v ∷ [])) e
-
-pub cut : {n : ℕ} {s t : Reader} {v : Bor (List ℕ)} (o : Result (List Item) Fault) → Part n s v t → (k : List ℕ → Grammar) → met (k v.now) t ≡ o → met (Grammar.part n k) s ≡ more (Item.raw v.now ∷ []) o
-cut {n} {s} {t} {v} o h k e = h.on k ∙ ap (more (Item.raw v.now ∷ [])) e
-
-pub one : {x : Answer} {s t : Reader} (o : Result (List Item) Fault) → Entered x s t → (k : ℕ → Grammar) → met (k x.entry.earlier) t ≡ o → met (entered k) s ≡ more (items (reply x)) o
-one {x} o h k e = h.on k ∙ ap (more (items (reply x))) e

@@ -2,7 +2,7 @@
 -- Shown by computing over all bytes and boards.
 use Rattle.std.proofs.Common.{◌≡◌, ℕ, ◌<◌, Bool, true, not, ◌||◌, eqb, refl, ⊎_elim}
 use Rattle.std.proofs.lemmas.Bool.{eqb-true, or_cases, both_ways, not-true, eq-eqb}
-use Rattle.boards.specs.Boards.{member, only, one, size, tally, every}
+use Rattle.boards.specs.Boards.{member, only, size, tally, every}
 use Rattle.boards.proofs.Chosen.{every_at}
 
 known_at : ℕ → ℕ → Bool

@@ -136,12 +136,6 @@ ended n i top m {s} {t} part e g d p =
     let all : fields_in i xs ≡ replies_values (heard_replies part.now) = ap (λ j. fields_in j xs) e ∙ ap replies_values (sym (within n m xs (omega arith)) ∙ (λ j. replies_in (count j) (sym p j))) in
     record { on = λ b k. g.on k ∙ (λ j. more (all j) (met (entries (zero' j) top k) t)) }
 
-pub cut_off : {s s1 s2 s3 : Reader} {e c : ℕ} (f : Fault) → Read 4 (from_to 0 8) s e s1 → Read 1 (from_to 0 0) s1 0 s2 → Read 3 (from_to 0 (cond (eqb e 0) 0 7)) s2 c s3 → ((k : List ℕ → Grammar) → met (Grammar.part 8 k) s3 ≡ Err f) → (k : ℕ → Grammar) → met (entered k) s ≡ Err f
-cut_off {s} {s1} {s2} {s3} {e} {c} f p0 p1 p2 p3 k =
-    p0.on (λ e'. Grammar.field 1 (from_to 0 0) (λ _. Grammar.field 3 (from_to 0 (cond (eqb e' 0) 0 7)) (λ _. Grammar.part 8 (λ _. k e'))))
-    ∙ ap (more (Item.num 4 e ∷ [])) (p1.on (λ _. Grammar.field 3 (from_to 0 (cond (eqb e 0) 0 7)) (λ _. Grammar.part 8 (λ _. k e)))
-    ∙ ap (more (Item.num 1 0 ∷ [])) (p2.on (λ _. Grammar.part 8 (λ _. k e)) ∙ ap (more (Item.num 3 c ∷ [])) (p3 (λ _. k e))))
-
 -- a set before its entries
 pub behind_set : {b top : ℕ} {s t u : Reader} (n : ℕ) (es : Entries) → n ≡ size b → Read 8 (from_to 0 255) s b t → All n es top t u → PassedBy replied top (Item.num 8 b ∷ replies_values (replies_of b es)) s u
 behind_set {b} {top} {s} {t} {u} n es e p a = record {

@@ -7,10 +7,10 @@ use Rattle.std.proofs.lemmas.Nat.{and_mask, one_shl, mod_below, pow_pos}
 use Rattle.reader.specs.declared.place.Reader.{Reader}
 use Rattle.reader.specs.Places.{at, src, pair, Got}
 
-pub masked : (n w : ℕ) → w < 16 → bit_and n ((1 * 2 ^ w) % 65536 - 1) ≡ n % 2 ^ w
+masked : (n w : ℕ) → w < 16 → bit_and n ((1 * 2 ^ w) % 65536 - 1) ≡ n % 2 ^ w
 masked n w h = ap (λ m. bit_and n (m - 1)) (one_shl w 16 h) ∙ and_mask n w
 
-pub masked_below : (n w : ℕ) → w < 16 → bit_and n ((1 * 2 ^ w) % 65536 - 1) < 2 ^ w
+masked_below : (n w : ℕ) → w < 16 → bit_and n ((1 * 2 ^ w) % 65536 - 1) < 2 ^ w
 masked_below n w h = rw (masked n w h) (mod_below n (2 ^ w) (pow_pos w))
 
 -- the bytes from b on, as the program cuts them off
