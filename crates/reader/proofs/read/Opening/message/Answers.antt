@@ -3,7 +3,7 @@ use Rattle.std.proofs.lemmas.Result.{err_from_is_err_and}
 use Rattle.grammar.specs.Grammar.{Grammar, Item, more}
 use Rattle.wire.specs.Fields.{proof}
 use Rattle.reader.proofs.Chains.{passed, passed_by}
-use Rattle.reader.proofs.read.body.Goals as goal
+use Rattle.reader.proofs.read.Opening.message.Goals as goal
 
 pub returns-in_err-change-in-Notify : goal.returns-in_err-change-in-Notify
 returns-in_err-change-in-Notify c =
@@ -43,5 +43,5 @@ returns-in_err-proof-in-SuggestLast c =
 pub returns-in_ok-proof-in-SuggestLast : goal.returns-in_ok-proof-in-SuggestLast
 returns-in_ok-proof-in-SuggestLast c =
     rw c.in-SuggestLast.is
-    (ap (more (Item.num 4 10 ∷ Item.num 8 c.args.view ∷ []))
+    (ap (more (Item.num 4 10 ∷ Item.num 8 c.args.self.view ∷ []))
     (passed _ c.in_ok-rank-in-SuggestLast.ensures _ (passed_by _ c.in_ok-replies-in-SuggestLast.ensures (λ top. proof top Grammar.done) c.in_ok-proof-in-SuggestLast.ensures)))
