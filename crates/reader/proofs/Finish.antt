@@ -22,6 +22,6 @@ so bs e o = (faults message (bits bs) 0 e).0 o
 spelt : (bs : List ℕ) (m : Message) → ((i : ℕ) → get_or bs i 0 < 256) → Stands message (values (meaning m)) (bits bs) → Reads bs (Ok (meaning m))
 spelt bs m f s = (s.allowed, packed_is bs (values (meaning m)) (all_below bs f) s.form)
 
-pub finish : (bs : List ℕ) (o : Opening) (x : Result Message Fault) → ((i : ℕ) → get_or bs i 0 < 256) → OpeningRead bs (Ok o) → BodyRead (kind_number o.kind) o.view o.head.reader x → Reads bs (told x)
+pub finish : (bs : List ℕ) (o : Opening) (x : Result Message Fault) → ((i : ℕ) → get_or bs i 0 < 256) → OpeningRead bs (Ok o) → BodyRead o x → Reads bs (told x)
 finish bs o (Ok m) f p r = spelt bs m f ((exact message (bits bs) 0 (values (meaning m))).0 (p body ∙ r))
 finish bs o (Err e) f p r = so bs e (p body ∙ ap (more (Item.num 4 (kind_number o.kind) ∷ Item.num 8 o.view ∷ [])) r)

@@ -9,7 +9,6 @@ use Rattle.wire.specs.Kinds.{kind_number}
 use Rattle.wire.specs.Fields.{view}
 use Rattle.wire.specs.Messages.{Msg, meaning}
 use Rattle.wire.specs.Format.{message, values, body}
-use Rattle.reader.specs.declared.place.Reader.{Reader}
 use Rattle.reader.specs.declared.read.Opening.{Opening}
 use Rattle.reader.specs.Places.{met}
 
@@ -26,6 +25,6 @@ OpeningRead bs (Ok o) =
 OpeningRead bs (Err e) = outcome message (bits bs) 0 ≡ Err e
 
 -- What follows kind and view was read.
-abbrev pub BodyRead : ℕ → ℕ → Reader → Result Message Fault → Type 0
-BodyRead k v s (Ok m) = more (Item.num 4 k ∷ Item.num 8 v ∷ []) (met (body k) s) ≡ Ok (values (meaning m))
-BodyRead k v s (Err e) = met (body k) s ≡ Err e
+abbrev pub BodyRead : Opening → Result Message Fault → Type 0
+BodyRead o (Ok m) = more (Item.num 4 (kind_number o.kind) ∷ Item.num 8 o.view ∷ []) (met (body (kind_number o.kind)) o.head.reader) ≡ Ok (values (meaning m))
+BodyRead o (Err e) = met (body (kind_number o.kind)) o.head.reader ≡ Err e

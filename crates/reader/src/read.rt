@@ -1,6 +1,5 @@
 // Reads heard bytes: the message that they spell, or the first fault met from the front.
 // Rules: docs/FRAMES.md, "Faults". Nothing is copied: the message names parts of the heard bytes.
-ghost use Rattle.wire.specs.Kinds.{kind_number};
 ghost use Rattle.wire.specs.Reads.{Reads};
 ghost use Rattle.reader.specs.Told.{told, OpeningRead, BodyRead};
 
@@ -43,7 +42,7 @@ impl<'a> Opening<'a> {
 
     // The message that begins so: what follows kind and view, up to its end.
     fn message(self) -> Result<Message<'a>, Fault>
-        ensures { BodyRead (kind_number self.entry.kind) self.entry.view self.entry.head.reader result }
+        ensures { BodyRead self.entry result }
     {
         let Opening { kind, view, head } = self;
         match kind {
