@@ -4,13 +4,14 @@ use Rattle.std.proofs.Common.{◌≡◌, ℕ, zero, suc, ◌+◌, ◌-◌, ◌*�
 use lib.Seq.{take-append-le, drop-append-le}
 use Rattle.std.specs.List.{AllByRecursion}
 use Rattle.std.proofs.lemmas.List.{append_assoc, append-nil}
+use Rattle.grammar.specs.declared.fault.Fault.{Fault}
 use Rattle.grammar.specs.declared.fault.Layer.TheVariants.{Bytes, Field}
 use Rattle.grammar.specs.Bits.{bits_of, number_of, bits, bytes_of}
 use Rattle.grammar.specs.Grammar.{Grammar, Item, outcome, more, fault}
 use Rattle.grammar.proofs.Bits.{length_bits_of, length_bits, number_bits, bytes_bits, parts, low, bits_append, drop_bits}
 use Rattle.grammar.proofs.Steps.{field_short, field_bad, field_good, part_short, part_good, done_good, done_over}
 use Rattle.reader.specs.declared.place.Reader.{Reader}
-use Rattle.reader.specs.Places.{at, src, met, pair, Got, Read, Part, Found, Cut}
+use Rattle.reader.specs.Places.{at, src, met, pair, missing, refused, Got, Moved, Read, Refused, Part, Found, Cut}
 
 -- the w bits from bit r on of a number of 16 bits
 cut : (r w n : ℕ) (rest : List Bool) → r + w ≤ 16 → take w (drop r (bits_of 16 n ++ rest)) ≡ bits_of w (n / 2 ^ (16 - (r + w)))
@@ -49,48 +50,47 @@ number_at (a ∷ b ∷ cs) r w one h k f =
 left_bits : (s : Reader) → drop (at s) (bits (src s)) ≡ drop s.bit (bits (drop s.byte (src s)))
 left_bits s = sym (drop-drop s.bit (8 * s.byte) (bits (src s))) ∙ ap (drop s.bit) (drop_bits s.byte (src s))
 
-pub got_number : {s t : Reader} {w v : ℕ} → 1 ≤ w → w ≤ 8 → Got s w v t → v ≡ number_of (take w (drop (at s) (bits (src s))))
-got_number {s} {t} {w} {v} o h g =
+pub got_number : {s : Reader} {w v : ℕ} → 1 ≤ w → w ≤ 8 → Got s w v → v ≡ number_of (take w (drop (at s) (bits (src s))))
+got_number {s} {w} {v} o h g =
     let q : at s / 8 ≡ s.byte = omega (arith, s.small) in
     let r : at s % 8 ≡ s.bit = omega (arith, s.small) in
     let cs = drop s.byte (src s) in
     let c0 : get_or cs 0 0 ≡ get_or (src s) s.byte 0 = get_or-drop s.byte (src s) 0 0 ∙ ap (λ i. get_or (src s) i 0) (add-zero s.byte) in
     let c1 : get_or cs 1 0 ≡ get_or (src s) (s.byte + 1) 0 = get_or-drop s.byte (src s) 1 0 in
     let long : s.bit + w ≤ 8 * length cs = simp length-drop (omega (arith, s.inside, g.inside)) in
-    let n = number_at cs s.bit w o long (omega (arith, s.small)) (omega (arith, c1, g.next)) in
+    let n = number_at cs s.bit w o long (omega (arith, s.small)) (omega (arith, c1, s.fit (s.byte + 1))) in
     g.value ∙ (λ i. pair (src s) (q i) / 2 ^ (16 - (r i + w)) % 2 ^ w)
     ∙ (λ i. (sym c0 i * 256 + sym c1 i) / 2 ^ (16 - (s.bit + w)) % 2 ^ w) ∙ sym n ∙ ap (λ l. number_of (take w l)) (sym (left_bits s))
 
 left_long : (s : Reader) → length (drop (at s) (bits (src s))) ≡ 8 * length (src s) - at s
 left_long s = length-drop (at s) (bits (src s)) ∙ ap (λ n. n - at s) (length_bits (src s))
 
-pub got_on : {s t : Reader} {w v : ℕ} (ok : ℕ → Bool) → 1 ≤ w → w ≤ 8 → Got s w v t → ok v ≡ true → Read w ok s v t
+pub got_on : {s t : Reader} {w v : ℕ} (ok : ℕ → Bool) → 1 ≤ w → w ≤ 8 → Got s w v → Moved s w t → ok v ≡ true → Read w ok s v t
 unfolding met Found
-got_on {s} {t} {w} {v} ok o h g e =
+got_on {s} {t} {w} {v} ok o h g m e =
     let n = got_number o h g in
     let bs = drop (at s) (bits (src s)) in
-    let d : drop w bs ≡ drop (at t) (bits (src t)) = drop-drop w (at s) (bits (src s)) ∙ (λ i. drop (sym g.moved i) (bits (sym g.same i))) in
+    let d : drop w bs ≡ drop (at t) (bits (src t)) = drop-drop w (at s) (bits (src s)) ∙ (λ i. drop (sym m.1 i) (bits (sym m.0 i))) in
     record {
       on = λ k. field_good w ok k bs (at s) (omega (arith, left_long s, g.inside)) (ap ok (sym n) ∙ e)
-          ∙ (λ i. more (Item.num w (sym n i) ∷ []) (outcome (k (sym n i)) (d i) (sym g.moved i)));
+          ∙ (λ i. more (Item.num w (sym n i) ∷ []) (outcome (k (sym n i)) (d i) (sym m.1 i)));
       allowed = e;
-      below = g.below;
-      moved = g.moved;
-      found = (g.value, g.same);
+      moved = m.1;
+      found = (g.value, m.0);
     }
 
-pub got_bad : {s t : Reader} {w v : ℕ} (ok : ℕ → Bool) → 1 ≤ w → w ≤ 8 → Got s w v t → ok v ≡ false → (k : ℕ → Grammar) → met (Grammar.field w ok k) s ≡ Err (fault Field s.byte)
+pub got_bad : {s : Reader} {w v : ℕ} (ok : ℕ → Bool) → 1 ≤ w → w ≤ 8 → Got s w v → ok v ≡ false → {f : Fault} → f ≡ refused s → Refused w ok s f
 unfolding met
-got_bad {s} {t} {w} {v} ok o h g e k =
+got_bad {s} {w} {v} ok o h g e {f} x k =
     let q : at s / 8 ≡ s.byte = omega (arith, s.small) in
-    field_bad w ok k _ (at s) (omega (arith, left_long s, g.inside)) (ap ok (sym (got_number o h g)) ∙ e) ∙ ap (λ n. Err (fault Field n)) q
+    field_bad w ok k _ (at s) (omega (arith, left_long s, g.inside)) (ap ok (sym (got_number o h g)) ∙ e) ∙ ap (λ n. Err (fault Field n)) q ∙ ap (λ n. Err n) (sym x)
 
-pub none_left : (s : Reader) (w : ℕ) (ok : ℕ → Bool) → 1 ≤ w → 8 * length (src s) < at s + w → (k : ℕ → Grammar) → met (Grammar.field w ok k) s ≡ Err (fault Bytes (length (src s)))
+pub none_left : (s : Reader) (w : ℕ) (ok : ℕ → Bool) → 1 ≤ w → {f : Fault} → (8 * length (src s) < at s + w) × (f ≡ missing s) → Refused w ok s f
 unfolding met
-none_left s w ok o h k =
+none_left s w ok o {f} h k =
     let l = left_long s in
-    let q : (at s + length (drop (at s) (bits (src s)))) / 8 ≡ length (src s) = omega (arith, l, s.small, s.inside) in
-    field_short w ok k _ (at s) (omega (arith, l)) ∙ ap (λ n. Err (fault Bytes n)) q
+    let q : (at s + length (drop (at s) (bits (src s)))) / 8 ≡ length (src s) = omega (arith, l, s.small, s.inside, h.0) in
+    field_short w ok k _ (at s) (omega (arith, l, h.0)) ∙ ap (λ n. Err (fault Bytes n)) q ∙ ap (λ n. Err n) (sym h.1)
 
 pub all_below : (xs : List ℕ) → ((i : ℕ) → get_or xs i 0 < 256) → AllByRecursion (λ x. x < 256) xs
 all_below [] h = tt
@@ -128,12 +128,12 @@ part_on n m s v t z h mn is same byte bit =
       found = (is', same);
     }
 
-pub part_gone : (n : ℕ) (s : Reader) → s.bit ≡ 0 → length (src s) - s.byte < n → (k : List ℕ → Grammar) → met (Grammar.part n k) s ≡ Err (fault Bytes (length (src s)))
+pub part_gone : (n : ℕ) (s : Reader) → s.bit ≡ 0 → length (src s) - s.byte < n → {f : Fault} → f ≡ missing s → (k : List ℕ → Grammar) → met (Grammar.part n k) s ≡ Err f
 unfolding met
-part_gone n s z h k =
+part_gone n s z h {f} x k =
     let l = left_long s in
     let q : (at s + length (drop (at s) (bits (src s)))) / 8 ≡ length (src s) = omega (arith, l, s.inside) in
-    part_short n k _ (at s) (omega (arith, l, s.inside)) ∙ ap (λ m. Err (fault Bytes m)) q
+    part_short n k _ (at s) (omega (arith, l, s.inside)) ∙ ap (λ m. Err (fault Bytes m)) q ∙ ap (λ m. Err m) (sym x)
 
 pub over : (s : Reader) → s.bit ≡ 0 → s.byte < length (src s) → met Grammar.done s ≡ Err (fault Bytes s.byte)
 unfolding met

@@ -1,30 +1,17 @@
 -- One part after another: what the format says of the bytes left, carried over each step.
 -- A chain of these is the proof of one kind.
-use Rattle.std.proofs.Common.{◌≡◌, ℕ, Bool, List, [], ◌∷◌, Result, ap, ◌∙◌, Bor}
+use Rattle.std.proofs.Common.{◌≡◌, ℕ, Bool, List, [], ◌∷◌, Result, ap, ◌∙◌}
 use Rattle.grammar.specs.declared.fault.Fault.{Fault}
 use Rattle.grammar.specs.Grammar.{Grammar, Item, more}
 use Rattle.reader.specs.declared.place.Reader.{Reader}
-use Rattle.reader.specs.Places.{met, Read, Part}
-use Rattle.wire.specs.Messages.{heard_replies}
-use Rattle.wire.specs.Format.{replies_values}
-use Rattle.reader.specs.declared.parts.Reply.{Reply as ReplyRead}
-use Rattle.wire.specs.Fields.{entered, entries}
-use Rattle.reader.specs.Parts.{Passed, PassedBy, Entered, All, items, reply}
+use Rattle.reader.specs.Places.{met, Read}
+use Rattle.reader.specs.Parts.{Passed, PassedBy}
 
 pub passed : {F : Grammar → Grammar} {is : List Item} {s t : Reader} (o : Result (List Item) Fault) → Passed F is s t → (k : Grammar) → met k t ≡ o → met (F k) s ≡ more is o
 passed {F} {is} o h k e = h.on k ∙ ap (more is) e
 
-pub passed_by : {m : ℕ} {F : (ℕ → Grammar) → Grammar} {x : ℕ} {is : List Item} {s t : Reader} (o : Result (List Item) Fault) → PassedBy m F x is s t → (k : ℕ → Grammar) → met (k x) t ≡ o → met (F k) s ≡ more is o
-passed_by {m} {F} {x} {is} o h k e = h.on k ∙ ap (more is) e
+pub passed_by : {F : (ℕ → Grammar) → Grammar} {x : ℕ} {is : List Item} {s t : Reader} (o : Result (List Item) Fault) → PassedBy F x is s t → (k : ℕ → Grammar) → met (k x) t ≡ o → met (F k) s ≡ more is o
+passed_by {F} {x} {is} o h k e = h.on k ∙ ap (more is) e
 
 pub read : {w v : ℕ} {ok : ℕ → Bool} {s t : Reader} (o : Result (List Item) Fault) → Read w ok s v t → (k : ℕ → Grammar) → met (k v) t ≡ o → met (Grammar.field w ok k) s ≡ more (Item.num w v ∷ []) o
 read {w} {v} o h k e = h.on k ∙ ap (more (Item.num w v ∷ [])) e
-
-pub cut : {n : ℕ} {s t : Reader} {v : Bor (List ℕ)} (o : Result (List Item) Fault) → Part n s v t → (k : List ℕ → Grammar) → met (k v.now) t ≡ o → met (Grammar.part n k) s ≡ more (Item.raw v.now ∷ []) o
-cut {n} {s} {t} {v} o h k e = h.on k ∙ ap (more (Item.raw v.now ∷ [])) e
-
-pub one : {x : ReplyRead} {s t : Reader} (o : Result (List Item) Fault) → Entered x s t → (k : ℕ → Grammar) → met (k x.entry.earlier) t ≡ o → met (entered k) s ≡ more (items (reply x)) o
-one {x} o h k e = h.on k ∙ ap (more (items (reply x))) e
-
-pub each : {n top : ℕ} {part : List ℕ} {s t : Reader} (o : Result (List Item) Fault) → All n top part s t → (k : ℕ → Grammar) → met (k top) t ≡ o → met (entries n 0 k) s ≡ more (replies_values (heard_replies part)) o
-each {n} {top} {part} o h k e = h.on k ∙ ap (more (replies_values (heard_replies part))) e

@@ -8,11 +8,15 @@ use Rattle.grammar.proofs.Steps.{more_more}
 use Rattle.grammar.proofs.Lawful.{more_none}
 use Rattle.reader.specs.declared.place.Reader.{Reader}
 use Rattle.reader.specs.Places.{met, src, at, pair, field_at, Read, Part, Found, Cut}
-use Rattle.wire.specs.Messages.{Reply, reply_at, replies_in, heard_replies}
+use Rattle.wire.specs.declared.message.Entries.TheVariants.{Heard as HeardEntries}
+use Rattle.wire.specs.declared.message.Entries.{Entries}
+use Rattle.wire.specs.Messages.{Reply, reply_at, replies_in, heard_replies, replies_of}
 use Rattle.wire.specs.Format.{reply_values, replies_values}
-use Rattle.reader.specs.declared.parts.Reply.{Reply as ReplyRead}
+use Rattle.reader.specs.declared.parts.Answer.{Answer}
 use Rattle.wire.specs.Fields.{entered, entries}
-use Rattle.reader.specs.Parts.{items, Entered, All}
+use Rattle.reader.specs.Parts.{items, Entered, All, PassedBy, replied}
+use Rattle.boards.specs.Boards.{size}
+use Rattle.reader.proofs.Chains.{read}
 
 field_in : (r : Reader) (b q w : ℕ) → at r ≡ 8 * b + q → q < 8 → field_at (src r) (at r) w ≡ pair (src r) b / 2 ^ (16 - (q + w)) % 2 ^ w
 field_in r b q w e h =
@@ -47,7 +51,6 @@ entered_by {s} {s1} {s2} {s3} {t} {e} {c} {v} z p0 p1 p2 p3 =
       found = λ i. record { entry = record { earlier = ee i; change = ce i }; tag = te i };
       same = p3.found.1 ∙ x3;
       moved = omega (arith, p0.moved, p1.moved, p2.moved, p3.moved, t.small);
-      whole = omega (arith, p0.moved, p1.moved, p2.moved, p3.moved, t.small);
     }
   where
     flat : (i j k l : Item) (o : Result (List Item) Fault) → more (i ∷ []) (more (j ∷ []) (more (k ∷ []) (more (l ∷ []) o))) ≡ more (i ∷ j ∷ k ∷ l ∷ []) o
@@ -77,22 +80,20 @@ pub record Going (n i top : ℕ) (s t : Reader) : Type 0 where
   pub on : (k : ℕ → Grammar) → met (entries n 0 k) s ≡ more (fields_in i (drop s.byte (src s))) (met (entries (n - i) top k) t)
   pub same : src t ≡ src s
   pub moved : t.byte ≡ s.byte + 9 * i
-  pub whole : t.bit ≡ 0
 
-pub start : (n : ℕ) (s : Reader) → s.bit ≡ 0 → Going n 0 0 s s
+pub start : (n : ℕ) (s : Reader) → Going n 0 0 s s
 unfolding replies_in replies_values
-start n s z = let e : n ≡ n - 0 = omega arith in record {
+start n s = let e : n ≡ n - 0 = omega arith in record {
   on = λ k. more_none (met (entries n 0 k) s) ∙ (λ i. more [] (met (entries (e i) 0 k) s));
   same = refl;
   moved = omega arith;
-  whole = z;
 }
 
 one_more : (m n i top : ℕ) → n - i ≡ suc m → (k : ℕ → Grammar) → entries (n - i) top k ≡ entered (λ e. entries m (max top e) k)
 unfolding entries
 one_more m n i top h k = ap (λ j. entries j top k) h
 
-pub next : (n i top : ℕ) {s t u : Reader} {x : ReplyRead} → i < n → Going n i top s t → Entered x t u → Going n (i + 1) (max top x.entry.earlier) s u
+pub next : (n i top : ℕ) {s t u : Reader} {x : Answer} → i < n → Going n i top s t → Entered x t u → Going n (i + 1) (max top x.entry.earlier) s u
 next n i top {s} {t} {u} {x} h g e =
     let m = n - (i + 1) in
     let d : n - i ≡ suc m = omega arith in
@@ -106,7 +107,6 @@ next n i top {s} {t} {u} {x} h g e =
           ∙ more_more (fields_in i xs) (items (reply_at xs (9 * i))) rest ∙ ap (λ is. more is rest) all;
       same = e.same ∙ g.same;
       moved = omega (arith, e.moved, g.moved);
-      whole = e.whole;
     }
 
 pub halt : (n i top : ℕ) {s t : Reader} (f : Fault) → i < n → Going n i top s t → ((k : ℕ → Grammar) → met (entered k) t ≡ Err f) → (k : ℕ → Grammar) → met (entries n 0 k) s ≡ Err f
@@ -126,18 +126,20 @@ unfolding replies_in
 within zero m xs h = refl
 within (suc n) m xs h = λ i. within n m xs (omega arith) i ++ near xs m (9 * n) (omega arith) i ∷ []
 
-pub ended : (n i top m : ℕ) {s t : Reader} (part : List ℕ) → i ≡ n → Going n i top s t → m ≡ 9 * n → part ≡ take m (drop s.byte (src s)) → All n top part s t
+pub ended : (n i top m : ℕ) {s t : Reader} (part : Bor (List ℕ)) → i ≡ n → Going n i top s t → m ≡ 9 * n → part.now ≡ take m (drop s.byte (src s)) → All n (HeardEntries part) top s t
 unfolding entries
 ended n i top m {s} {t} part e g d p =
     let xs = drop s.byte (src s) in
     let zero' : n - i ≡ 0 = omega arith in
-    let long : length part ≡ 9 * n = ap length p ∙ length-take-le m xs (simp length-drop (omega (arith, g.moved, t.inside, ap length g.same))) ∙ d in
-    let count : n ≡ (length part + 8) / 9 = omega arith in
-    let all : fields_in i xs ≡ replies_values (heard_replies part) = ap (λ j. fields_in j xs) e ∙ ap replies_values (sym (within n m xs (omega arith)) ∙ (λ j. replies_in (count j) (sym p j))) in
-    record { on = λ k. g.on k ∙ (λ j. more (all j) (met (entries (zero' j) top k) t)); whole = g.whole }
+    let long : length part.now ≡ 9 * n = ap length p ∙ length-take-le m xs (simp length-drop (omega (arith, g.moved, t.inside, ap length g.same))) ∙ d in
+    let count : n ≡ (length part.now + 8) / 9 = omega arith in
+    let all : fields_in i xs ≡ replies_values (heard_replies part.now) = ap (λ j. fields_in j xs) e ∙ ap replies_values (sym (within n m xs (omega arith)) ∙ (λ j. replies_in (count j) (sym p j))) in
+    record { on = λ b k. g.on k ∙ (λ j. more (all j) (met (entries (zero' j) top k) t)) }
 
-pub cut_off : {s s1 s2 s3 : Reader} {e c : ℕ} (f : Fault) → Read 4 (from_to 0 8) s e s1 → Read 1 (from_to 0 0) s1 0 s2 → Read 3 (from_to 0 (cond (eqb e 0) 0 7)) s2 c s3 → ((k : List ℕ → Grammar) → met (Grammar.part 8 k) s3 ≡ Err f) → (k : ℕ → Grammar) → met (entered k) s ≡ Err f
-cut_off {s} {s1} {s2} {s3} {e} {c} f p0 p1 p2 p3 k =
-    p0.on (λ e'. Grammar.field 1 (from_to 0 0) (λ _. Grammar.field 3 (from_to 0 (cond (eqb e' 0) 0 7)) (λ _. Grammar.part 8 (λ _. k e'))))
-    ∙ ap (more (Item.num 4 e ∷ [])) (p1.on (λ _. Grammar.field 3 (from_to 0 (cond (eqb e 0) 0 7)) (λ _. Grammar.part 8 (λ _. k e)))
-    ∙ ap (more (Item.num 1 0 ∷ [])) (p2.on (λ _. Grammar.part 8 (λ _. k e)) ∙ ap (more (Item.num 3 c ∷ [])) (p3 (λ _. k e))))
+-- a set before its entries
+pub behind_set : {b top : ℕ} {s t u : Reader} (n : ℕ) (es : Entries) → n ≡ size b → Read 8 (from_to 0 255) s b t → All n es top t u → PassedBy replied top (Item.num 8 b ∷ replies_values (replies_of b es)) s u
+behind_set {b} {top} {s} {t} {u} n es e p a = record {
+  on = λ k.
+      read _ p (λ m. entries (size m) 0 k) ((λ i. met (entries (sym e i) 0 k) t) ∙ a.on b k)
+      ∙ more_more (Item.num 8 b ∷ []) (replies_values (replies_of b es)) (met (k top) u);
+}

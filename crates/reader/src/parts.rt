@@ -1,135 +1,169 @@
-// The parts that several kinds share: tags of one board or of a set, entries, proofs, heads with a rank or a payload.
+// What stands behind the heads, all of it whole bytes: sets, tags, entries, proofs, and the end of the message.
 // Format: docs/FRAMES.md, "Parts".
-ghost use Rattle.std.specs.Prelude.{◌≡◌, ◌*◌, ◌<◌, max, if◌then◌else◌, nat_eq};
-ghost use Rattle.boards.specs.Boards.{size};
-ghost use Rattle.reader.specs.Places.{PartRead};
-ghost use Rattle.reader.specs.Parts.{LoneTagRead, TaggedRead, ProofRead, EnteredRead, EntriesRead, GradedRead, CarriedRead};
+ghost use Rattle.reader.specs.Places.{Ended, LoneRead, PartRead, SetRead};
+ghost use Rattle.reader.specs.Parts.{AnswerRead, EntriesRead, TagsRead, SpokenRead, OwnRead, TaggedRead, ProofRead, RepliesRead};
 
-use crate::place::Reader;
+use crate::field::{CHANGE, EARLIER, SET, ZERO};
+use crate::place::{Reading, Whole};
 use boards::Set;
-use grammar::fault::Fault;
-use wire::message::{Content, Entry, Sort};
+use grammar::fault::{Fault, Layer};
+use wire::message::{Entries, Entry, Replies, Tagged, Tags};
 
-// Just the speaker, and its tag.
-pub(crate) fn lone_tag<'a>(r: &mut Reader<'a>) -> Result<(u8, &'a [u8]), Fault>
-    requires { r.old.bit ≡ 0 }
-    ensures { LoneTagRead r.old result r.new }
-{
-    let speaker = r.lone()?;
-    let tag = r.bytes(8)?;
-    Ok((speaker, tag))
-}
-
-// The tags of a set's boards.
-fn tags_of<'a>(r: &mut Reader<'a>, set: u8) -> Result<&'a [u8], Fault>
-    requires { r.old.bit ≡ 0 }
-    ensures { PartRead (8 * size set) r.old result r.new }
-{
-    r.bytes(8 * Set { bits: set }.len() as usize)
-}
-
-// A set, and its boards' tags.
-pub(crate) fn tagged<'a>(r: &mut Reader<'a>) -> Result<(u8, &'a [u8]), Fault>
-    requires { r.old.bit ≡ 0 }
-    ensures { TaggedRead r.old result r.new }
-{
-    let set = r.value(8, 0, 255)?;
-    let tags = tags_of(r, set)?;
-    Ok((set, tags))
-}
-
-// A proof with its tags: no boards exactly if there is no earlier rank.
-pub(crate) fn proof<'a>(r: &mut Reader<'a>, earlier: u8) -> Result<(u8, &'a [u8]), Fault>
-    requires { r.old.bit ≡ 0 }
-    ensures { ProofRead earlier r.old result r.new }
-{
-    let set = if earlier == 0 {
-        r.value(8, 0, 0)?
-    } else {
-        r.value(8, 1, 255)?
-    };
-    let tags = tags_of(r, set)?;
-    Ok((set, tags))
+// A board and its tag.
+#[derive(Clone, Copy)]
+pub struct Spoken<'a> {
+    pub speaker: u8,
+    pub tag: Tags<'a>,
 }
 
 // An entry with the tag that it precedes.
 #[derive(Clone, Copy)]
-pub struct Reply<'a> {
+pub struct Answer<'a> {
     pub entry: Entry,
     pub tag: &'a [u8],
 }
 
-// An entry byte and the tag that it precedes.
-pub(crate) fn entered<'a>(r: &mut Reader<'a>) -> Result<Reply<'a>, Fault>
-    requires { r.old.bit ≡ 0 }
-    ensures { EnteredRead r.old result r.new }
-{
-    let earlier = r.value(4, 0, 8)?;
-    r.constant(1, 0)?;
-    let change = r.value(3, 0, last_change(earlier))?;
-    let tag = r.bytes(8)?;
-    Ok(Reply {
-        entry: Entry { earlier, change },
-        tag,
-    })
-}
-
-// No change without an earlier rank.
-fn last_change(earlier: u8) -> u8
-    ensures { result ≡ (if nat_eq earlier 0 then 0 else 7) }
-{
-    if earlier == 0 { 0 } else { 7 }
-}
-
-// As many entries as a set has boards: the highest earlier rank, and the bytes of all.
-pub(crate) fn all<'a>(r: &mut Reader<'a>, n: u8) -> Result<(u8, &'a [u8]), Fault>
-    requires { r.old.bit ≡ 0 }
-    ensures { EntriesRead n r.old result r.new }
-{
-    let src = r.src;
-    let from = r.byte;
-    let mut top = 0;
-    for _i in 0..n {
-        let e = entered(r)?;
-        top = higher(top, e.entry.earlier);
+impl<'a> Whole<'a> {
+    // Some bytes, as a part of what is read.
+    pub(crate) fn bytes(self, n: usize) -> Reading<'a, &'a [u8]>
+        ensures { PartRead n self.entry.reader result }
+    {
+        let mut reader = self.reader;
+        let Some(part) = reader.src[reader.byte..].get(..n) else {
+            return Err(reader.missing());
+        };
+        reader.byte += n;
+        Ok((part, Whole { reader }))
     }
-    Ok((top, &src[from..r.byte]))
-}
 
-fn higher(a: u8, b: u8) -> u8
-    ensures { result ≡ max a b }
-{
-    if a < b { b } else { a }
-}
+    // A set whose byte is from `least` to `most`.
+    fn set(self, least: u8, most: u8) -> Reading<'a, Set>
+        ensures { SetRead least most self.entry.reader result }
+    {
+        let mut reader = self.reader;
+        let bits = reader.value(SET.within(least, most))?;
+        Ok((Set { bits }, Whole { reader }))
+    }
 
-// Rank and change, in kinds 3 to 6.
-pub(crate) fn graded(r: &mut Reader<'_>) -> Result<(u8, u8), Fault>
-    requires { r.old.bit ≡ 4 }
-    ensures { GradedRead r.old result r.new }
-{
-    let rank = r.value(4, 1, 8)?;
-    r.constant(5, 0)?;
-    let change = r.value(3, 0, 7)?;
-    Ok((rank, change))
-}
+    // A set of just one board; answers the board.
+    pub(crate) fn lone(self) -> Reading<'a, u8>
+        ensures { LoneRead self.entry.reader result }
+    {
+        let mut reader = self.reader;
+        let set = Set {
+            bits: reader.number(SET)?,
+        };
+        if set.len() != 1 {
+            return Err(reader.refused());
+        }
+        reader.skip(SET);
+        Ok((set.at(1).unwrap(), Whole { reader }))
+    }
 
-// What kinds 11 to 13 carry.
-pub(crate) fn carried<'a>(r: &mut Reader<'a>) -> Result<Content<'a>, Fault>
-    requires { r.old.bit ≡ 4 }
-    ensures { CarriedRead r.old result r.new }
-{
-    let sender = r.value(3, 0, 7)?;
-    let number = r.value(8, 1, 255)?;
-    let sort = r.sort()?;
-    let length = match sort {
-        Sort::Report => r.value(6, 0, 48)?,
-        Sort::End => r.value(6, 1, 1)?,
-    };
-    let payload = r.bytes(length as usize)?;
-    Ok(Content {
-        sender,
-        number,
-        sort,
-        payload,
-    })
+    // Nothing more.
+    fn end(self) -> Result<(), Fault>
+        ensures { Ended self.entry.reader result }
+    {
+        let reader = self.reader;
+        if reader.byte < reader.src.len() {
+            return Err(Fault {
+                layer: Layer::Bytes,
+                place: reader.byte,
+            });
+        }
+        Ok(())
+    }
+
+    // The last tags of a message, so many, and nothing more.
+    fn tags(self, count: u8) -> Result<Tags<'a>, Fault>
+        ensures { TagsRead count self.entry.reader result }
+    {
+        let (tags, rest) = self.bytes(8 * usize::from(count))?;
+        rest.end()?;
+        Ok(Tags::Heard(tags))
+    }
+
+    // Just the speaker, and its tag.
+    pub(crate) fn spoken(self) -> Result<Spoken<'a>, Fault>
+        ensures { SpokenRead self.entry.reader result }
+    {
+        let (speaker, rest) = self.lone()?;
+        let tag = rest.tags(1)?;
+        Ok(Spoken { speaker, tag })
+    }
+
+    // Just this board, and its tag.
+    pub(crate) fn own(self, board: u8) -> Result<Tags<'a>, Fault>
+        ensures { OwnRead board self.entry.reader result }
+    {
+        let bits = Set::only(board).bits;
+        let (_, rest) = self.set(bits, bits)?;
+        rest.tags(1)
+    }
+
+    // A set whose byte is from `least` to `most`, and its boards' tags.
+    fn tagged_within(self, least: u8, most: u8) -> Result<Tagged<'a>, Fault>
+        ensures { TaggedRead least most self.entry.reader result }
+    {
+        let (set, rest) = self.set(least, most)?;
+        let tags = rest.tags(set.len())?;
+        Ok(Tagged { set, tags })
+    }
+
+    // Any set, and its boards' tags.
+    pub(crate) fn tagged(self) -> Result<Tagged<'a>, Fault>
+        ensures { TaggedRead 0 255 self.entry.reader result }
+    {
+        self.tagged_within(0, 255)
+    }
+
+    // A proof with its tags: no boards exactly if there is no earlier rank.
+    pub(crate) fn proof(self, earlier: u8) -> Result<Tagged<'a>, Fault>
+        ensures { ProofRead earlier self.entry.reader result }
+    {
+        if earlier == 0 {
+            self.tagged_within(0, 0)
+        } else {
+            self.tagged_within(1, 255)
+        }
+    }
+
+    // An entry and the tag that it precedes: no change without an earlier rank.
+    pub(crate) fn answer(self) -> Reading<'a, Answer<'a>>
+        ensures { AnswerRead self.entry.reader result }
+    {
+        let mut reader = self.reader;
+        let earlier = reader.value(EARLIER)?;
+        reader.value(ZERO)?;
+        let most = if earlier == 0 { 0 } else { 7 };
+        let change = reader.value(CHANGE.within(0, most))?;
+        let (tag, rest) = Whole { reader }.bytes(8)?;
+        let entry = Entry { earlier, change };
+        Ok((Answer { entry, tag }, rest))
+    }
+
+    // As many entries as a set has boards, and the highest earlier rank among them.
+    fn entries(self, n: u8) -> Reading<'a, (Entries<'a>, u8)>
+        ensures { EntriesRead n self.entry.reader result }
+    {
+        let mut rest = self;
+        let mut highest = 0;
+        // A `for`: in a `try_fold` each turn would take a pair of reader and maximum apart and make it again.
+        for _ in 0..n {
+            let (answer, after) = rest.answer()?;
+            highest = highest.max(answer.entry.earlier);
+            rest = after;
+        }
+        let bytes = &self.reader.src[self.reader.byte..rest.reader.byte];
+        Ok(((Entries::Heard(bytes), highest), rest))
+    }
+
+    // Any set, with its boards' entries, and the highest earlier rank among them.
+    pub(crate) fn replies(self) -> Reading<'a, (Replies<'a>, u8)>
+        ensures { RepliesRead self.entry.reader result }
+    {
+        let (set, rest) = self.set(0, 255)?;
+        let ((entries, highest), rest) = rest.entries(set.len())?;
+        Ok(((Replies { set, entries }, highest), rest))
+    }
 }
