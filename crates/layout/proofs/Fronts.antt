@@ -5,21 +5,21 @@ use Rattle.std.specs.List.{AllByRecursion}
 use Rattle.std.proofs.lemmas.List.{append_assoc, append-nil}
 use Rattle.std.proofs.ByRecursion.{All-append}
 use Rattle.std.proofs.lemmas.Bool.{and_parts, eqb-true, eq-eqb}
-use Rattle.boards.specs.declared.Set.{Set}
 use Rattle.boards.specs.Boards.{size, member, place}
 use Rattle.boards.proofs.Sets.{size_le, place_last}
 use Rattle.grammar.specs.Bits.{bits_of, bits}
 use Rattle.grammar.specs.Grammar.{Grammar, Item, After, spell}
 use Rattle.grammar.proofs.Bits.{low, bits_append}
-use Rattle.wire.specs.declared.message.Tags.{Tags}
+use Rattle.wire.specs.declared.message.Tagged.{Tagged}
 use Rattle.wire.specs.declared.message.Entries.{Entries}
+use Rattle.wire.specs.declared.message.Replies.{Replies as RepliesOf}
 use Rattle.wire.specs.Fields.{entries}
-use Rattle.wire.specs.Messages.{Reply, tags_of, replies_of, listed}
+use Rattle.wire.specs.Messages.{Reply, tags_by, replies_of, replies_by, listed}
 use Rattle.wire.specs.Format.{message, body, replies_values}
 use Rattle.layout.specs.declared.plan.Head.{Head}
 use Rattle.layout.specs.declared.plan.Middle.TheVariants.{Nothing, Payload, Tag, Replies}
 use Rattle.layout.specs.Heads.{Goes, Holds, Heads}
-use Rattle.layout.specs.Measures.{Bytes, Measured, Tagged, Even, reply_of, Gathers}
+use Rattle.layout.specs.Measures.{Bytes, Measured, WholeTag, Even, reply_of, Gathers}
 use Rattle.layout.specs.Layouts.{Fronts, Whole, head_bytes, replies_bytes}
 use Rattle.layout.proofs.Rests.{un_raw, join, cut, front, clash}
 use Rattle.grammar.proofs.Cuts.{spell_append}
@@ -70,16 +70,16 @@ loaded {h} {is} {g} p o w f l =
       goes = subst (λ b. Goes b message (is ++ Item.raw xs ∷ []) g) (and_true h.allowed) (goes_raw message is h.allowed true xs (length xs) (λ _. g) (λ _. sym (eq-eqb _ _ refl)) f o.goes);
     }
 
-pub tagged : (h : Head) (b : Bool) (s : Set) (t : Tags) {is : List Item} {g : Grammar} → Holds h is (Grammar.part 8 (λ _. g)) → Whole h → Measured s t b → (After message is (Grammar.part 8 (λ _. g)) → size s.bits ≡ 1) → Fronts (record { number = h.number; width = h.width; allowed = h.allowed && b }) (Tag s t) (is ++ Item.raw (tags_of s.bits t) ∷ []) g
-tagged h b s t {is} {g} o w m one =
-    let xs = tags_of s.bits t in
+pub tagged : (h : Head) (b : Bool) (q : Tagged) {is : List Item} {g : Grammar} → Holds h is (Grammar.part 8 (λ _. g)) → Whole h → Measured q b → (After message is (Grammar.part 8 (λ _. g)) → size q.set.bits ≡ 1) → Fronts (record { number = h.number; width = h.width; allowed = h.allowed && b }) (Tag q) (is ++ Item.raw (tags_by q) ∷ []) g
+tagged h b q {is} {g} o w m one =
+    let xs = tags_by q in
     let h' : Head = record { number = h.number; width = h.width; allowed = h.allowed && b } in
     let w' : Whole h' = record { eights = w.eights; some = w.some; most = w.most; below = w.below } in
     record {
       form = after_head h' is (Item.raw xs ∷ []) xs o.form w' (bytes xs);
       whole = w';
       fit = m.fit;
-      short = λ e. omega (arith, eqb-true _ _ (sym m.told ∙ (and_parts _ _ e).1), size_le s.bits);
+      short = λ e. omega (arith, eqb-true _ _ (sym m.told ∙ (and_parts _ _ e).1), size_le q.set.bits);
       even = λ _. tt;
       goes = goes_raw message is h.allowed b xs 8 (λ _. g) (λ p. m.told ∙ ap (λ n. eqb (length xs) (8 * n)) (one p)) m.fit o.goes;
     }
@@ -102,7 +102,7 @@ replies_bits (e ∷ es) =
     let rest : bits (e.tag ++ replies_bytes es) ≡ bits e.tag ++ spell (replies_values es) = bits_append e.tag (replies_bytes es) ∙ ap (λ l. bits e.tag ++ l) (replies_bits es) in
     (λ i. entry_bits e.entry.earlier e.entry.change i ++ rest i) ∙ simp append_assoc
 
-pub replies_fit : (es : List Reply) → AllByRecursion Tagged es → Bytes (replies_bytes es)
+pub replies_fit : (es : List Reply) → AllByRecursion WholeTag es → Bytes (replies_bytes es)
 unfolding replies_bytes
 replies_fit [] t = tt
 replies_fit (e ∷ es) t = (omega arith, All-append _ e.tag (replies_bytes es) t.0.1 (replies_fit es t.1))
@@ -126,16 +126,16 @@ goes_all : (g h l : Grammar) (is js : List Item) (a : Bool) → Goes a g is h �
 goes_all g h l is js true p q = join p q
 goes_all g h l is js false p q = λ any x. let r = front is js x in p r.0 r.1
 
-pub replied : {h : Head} {is : List Item} {top : ℕ} (k : ℕ → Grammar) (s : Set) (es : Entries) → Holds h is (entries (size s.bits) 0 k) → Whole h → Gathers s.bits es top → Fronts h (Replies s es) (is ++ replies_values (replies_of s.bits es)) (k top)
-replied {h} {is} {top} k s es o w g =
-    let rs = replies_of s.bits es in
+pub replied : {h : Head} {is : List Item} {top : ℕ} (k : ℕ → Grammar) (q : RepliesOf) → Holds h is (entries (size q.set.bits) 0 k) → Whole h → Gathers q.set.bits q.entries top → Fronts h (Replies q) (is ++ replies_values (replies_by q)) (k top)
+replied {h} {is} {top} k q o w g =
+    let rs = replies_by q in
     record {
       form = after_head h is (replies_values rs) (replies_bytes rs) o.form w (replies_bits rs);
       whole = w;
       fit = replies_fit rs g.tags;
-      short = λ _. omega (arith, replies_even s.bits es g.even, size_le s.bits);
+      short = λ _. omega (arith, replies_even q.set.bits q.entries g.even, size_le q.set.bits);
       even = λ _. g.even;
-      goes = goes_all message (entries (size s.bits) 0 k) (k top) is (replies_values rs) h.allowed o.goes (g.goes k);
+      goes = goes_all message (entries (size q.set.bits) 0 k) (k top) is (replies_values rs) h.allowed o.goes (g.goes k);
     }
 
 -- a head that is followed by a set at once

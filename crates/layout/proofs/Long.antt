@@ -10,7 +10,7 @@ use Rattle.grammar.proofs.Bits.{length_bits_of, length_bits, length_bytes_of}
 use Rattle.wire.specs.Fields.{graded, carried}
 use Rattle.wire.specs.Messages.{Msg, Reply}
 use Rattle.wire.specs.Format.{values, Formed, form, packed, set_values, graded_values, replies_values}
-use Rattle.layout.specs.Measures.{Tagged}
+use Rattle.layout.specs.Measures.{WholeTag}
 use Rattle.layout.proofs.Rests.{un_num, un_raw}
 use Rattle.layout.proofs.Allowed.{body_of}
 use Rattle.layout.proofs.Replies.{counted, reply_tells}
@@ -47,7 +47,7 @@ packed_long : (is : List Item) (n : ℕ) → weight is ≡ 8 * n → length (pac
 unfolding packed
 packed_long is n e = length_bytes_of (length (spell is) / 8) (spell is) ∙ omega (arith, spell_long is, e)
 
-weight_replies : (es : List Reply) (js : List Item) → AllByRecursion Tagged es → weight (replies_values es ++ js) ≡ 72 * length es + weight js
+weight_replies : (es : List Reply) (js : List Item) → AllByRecursion WholeTag es → weight (replies_values es ++ js) ≡ 72 * length es + weight js
 unfolding replies_values
 weight_replies [] js t = omega arith
 weight_replies (e ∷ es) js t = omega (arith, t.0.0, weight_replies es js t.1)

@@ -13,7 +13,7 @@ use Rattle.wire.specs.declared.message.Entries.TheVariants.{Heard, Stored}
 use Rattle.wire.specs.Fields.{entered, entries, proof}
 use Rattle.wire.specs.Messages.{Reply, listed, reply_at, replies_in, replies_of}
 use Rattle.wire.specs.Format.{reply_values, replies_values, set_values}
-use Rattle.layout.specs.Measures.{Bytes, Even, Evened, Short, Replied, reply_of, proper, most_change, Tagged, Going, Gathers, Gathered}
+use Rattle.layout.specs.Measures.{Bytes, Even, Evened, Short, Replied, reply_of, proper, most_change, WholeTag, Going, Gathers, Gathered}
 use Rattle.layout.proofs.Rests.{un_num, un_raw, un_wide, join, cut, clash}
 use Rattle.layout.proofs.Stored.{tag_fits}
 
@@ -75,7 +75,7 @@ values_append (x ∷ xs) ys = ap (reply_values x) (values_append xs ys)
 most_small : (e : ℕ) → most_change e ≤ 7
 most_small e = cond_both (eqb e 0) 0 7 (λ n. n ≤ 7) (λ _. omega arith) (λ _. omega arith)
 
-one_reply : (e : Reply) → proper e.entry ≡ true → Tagged e → (k : ℕ → Grammar) → After (entered k) (reply_values e []) (k e.entry.earlier)
+one_reply : (e : Reply) → proper e.entry ≡ true → WholeTag e → (k : ℕ → Grammar) → After (entered k) (reply_values e []) (k e.entry.earlier)
 one_reply e p t k =
     let q = and_parts (from_to 0 8 e.entry.earlier) _ p in
     let r = leb-true e.entry.earlier 8 (and_parts (leb 0 e.entry.earlier) _ q.0).1 in
@@ -83,7 +83,7 @@ one_reply e p t k =
     After.then_num (omega arith) q.0 (After.then_num (omega arith) refl (After.then_num (omega (arith, c, most_small e.entry.earlier)) q.1 (After.then_raw t.0 t.1 After.start)))
 
 -- and what a reply that may stand tells
-pub reply_tells : {e : Reply} {is : List Item} {k : ℕ → Grammar} {l : Grammar} → After (entered k) (reply_values e is) l → (proper e.entry ≡ true) × Tagged e × After (k e.entry.earlier) is l
+pub reply_tells : {e : Reply} {is : List Item} {k : ℕ → Grammar} {l : Grammar} → After (entered k) (reply_values e is) l → (proper e.entry ≡ true) × WholeTag e × After (k e.entry.earlier) is l
 reply_tells a =
     let r = un_num a in
     let z = un_num r.2 in
@@ -95,7 +95,7 @@ pub begin : (s : ℕ) (es : Entries) → Going s es 0 0
 unfolding listed replies_values
 begin s es = record { goes = λ k. subst (λ n. After (entries (size s) 0 k) [] (entries n 0 k)) (omega (arith, place_first s)) After.start; tags = tt }
 
-pub next : {s : ℕ} {es : Entries} {b top : ℕ} → Going s es b top → member s b ≡ true → proper (reply_of s es b).entry ≡ true → Tagged (reply_of s es b) → Going s es (b + 1) (max top (reply_of s es b).entry.earlier)
+pub next : {s : ℕ} {es : Entries} {b top : ℕ} → Going s es b top → member s b ≡ true → proper (reply_of s es b).entry ≡ true → WholeTag (reply_of s es b) → Going s es (b + 1) (max top (reply_of s es b).entry.earlier)
 unfolding entries replies_values
 next {s} {es} {b} {top} g m p t =
     let e = reply_of s es b in
@@ -107,7 +107,7 @@ next {s} {es} {b} {top} g m p t =
           subst (λ l. After (entries (size s) 0 k) (replies_values l) (entries (size s - place s (b + 1)) (max top e.entry.earlier) k)) more
           (subst (λ l. After (entries (size s) 0 k) l (entries (size s - place s (b + 1)) (max top e.entry.earlier) k)) (sym (values_append is (e ∷ [])))
           (join (subst (λ n. After (entries (size s) 0 k) (replies_values is) (entries n top k)) left (g.goes k)) (one_reply e p t _)));
-      tags = subst (AllByRecursion Tagged) more (All-push Tagged is e g.tags t);
+      tags = subst (AllByRecursion WholeTag) more (All-push WholeTag is e g.tags t);
     }
 
 pub skip : {s : ℕ} {es : Entries} {b top : ℕ} → Going s es b top → member s b ≡ false → Going s es (b + 1) top
@@ -117,7 +117,7 @@ skip {s} {es} {b} {top} g m =
     record {
       goes = λ k. let P : List Reply → ℕ → Type 0 = λ l n. After (entries (size s) 0 k) (replies_values l) (entries (size s - n) top k) in
           subst (λ n. P (listed (member s) (reply_of s es) (b + 1)) n) here (subst (λ l. P l (place s b)) same (g.goes k));
-      tags = subst (AllByRecursion Tagged) same g.tags;
+      tags = subst (AllByRecursion WholeTag) same g.tags;
     }
 
 pub evens : (s : ℕ) (es : Entries) (r : Bool) → Evened s es r → r ≡ true → Even s es
@@ -137,7 +137,7 @@ tag_bytes_fit : (s : ℕ) (es : Entries) (b : ℕ) (r : Bool) → Evened s es r 
 tag_bytes_fit s (Heard xs) b r v = All-take _ 8 _ (All-drop _ (9 * place s b + 1) xs.now v.1)
 tag_bytes_fit s (Stored es ts) b r v = tag_fits (get_or ts.now b 0)
 
-pub tag_of_even : (s : ℕ) (es : Entries) (b : ℕ) (r : Bool) → Evened s es r → r ≡ true → member s b ≡ true → Tagged (reply_of s es b)
+pub tag_of_even : (s : ℕ) (es : Entries) (b : ℕ) (r : Bool) → Evened s es r → r ≡ true → member s b ≡ true → WholeTag (reply_of s es b)
 tag_of_even s es b r v e m = (tag_long s es b (evens s es r v e) m, tag_bytes_fit s es b r v)
 
 -- what holds of each board's is so of all that are listed
@@ -160,7 +160,7 @@ finish {s} {es} {top} h g =
     record {
       goes = λ k. let P : List Reply → ℕ → Type 0 = λ l n. After (entries (size s) 0 k) (replies_values l) (entries n top k) in
           subst (λ n. P (replies_of s es) n) none (subst (λ l. P l (size s - place s 8)) all (g.goes k));
-      tags = subst (AllByRecursion Tagged) all g.tags;
+      tags = subst (AllByRecursion WholeTag) all g.tags;
       even = h;
     }
 
@@ -180,7 +180,7 @@ improper {s} {es} {b} {top} h g l m e = λ p a after.
     clash (reply_tells rest).0 e
 
 -- replies before a proof are as many as there are boards, each with its tag
-pub counted : (n top : ℕ) (es : List Reply) (p : ℕ) (a : List ℕ) {l : Grammar} → After (entries n top (λ t. proof t Grammar.done)) (replies_values es ++ set_values p a) l → (length es ≡ n) × AllByRecursion Tagged es × (length a ≡ 8 * size p)
+pub counted : (n top : ℕ) (es : List Reply) (p : ℕ) (a : List ℕ) {l : Grammar} → After (entries n top (λ t. proof t Grammar.done)) (replies_values es ++ set_values p a) l → (length es ≡ n) × AllByRecursion WholeTag es × (length a ≡ 8 * size p)
 unfolding entries replies_values
 counted zero top [] p a x = (refl, tt, (un_raw (un_num x).2).0)
 counted zero top (e ∷ es) p a x = absurd (omega (arith, un_wide x))
@@ -195,11 +195,11 @@ unfolding replies_in
 in_long zero xs = refl
 in_long (suc n) xs = length-append (replies_in n xs) _ ∙ omega (arith, in_long n xs)
 
-last_whole : (n : ℕ) (xs : List ℕ) → AllByRecursion Tagged (replies_in n xs) → 9 * n ≤ length xs
+last_whole : (n : ℕ) (xs : List ℕ) → AllByRecursion WholeTag (replies_in n xs) → 9 * n ≤ length xs
 unfolding replies_in
 last_whole zero xs t = omega arith
 last_whole (suc n) xs t =
-    let r = all_last Tagged (replies_in n xs) (reply_at xs (9 * n)) t in
+    let r = all_last WholeTag (replies_in n xs) (reply_at xs (9 * n)) t in
     omega (arith, length-take 8 (drop (9 * n + 1) xs), length-drop (9 * n + 1) xs, r.0)
 
 -- heard entries that are not nine bytes for each board

@@ -4,15 +4,14 @@ use Rattle.std.proofs.Common.{◌≡◌, ℕ, ◌*◌, ◌<◌, ◌≤◌, Bool,
 use Rattle.std.proofs.lemmas.List.{append_assoc}
 use Rattle.std.proofs.ByRecursion.{All-append}
 use Rattle.std.proofs.lemmas.Bool.{eq-eqb, cases_Bool}
-use Rattle.boards.specs.declared.Set.{Set}
 use Rattle.boards.specs.Boards.{size, only}
 use Rattle.boards.proofs.Members.{only_above}
 use Rattle.boards.proofs.Sets.{size_le, size_only, size_none}
 use Rattle.grammar.specs.Bits.{bits}
 use Rattle.grammar.specs.Grammar.{Grammar, Item, After, spell}
-use Rattle.wire.specs.declared.message.Tags.{Tags}
+use Rattle.wire.specs.declared.message.Tagged.{Tagged}
 use Rattle.wire.specs.Fields.{lone}
-use Rattle.wire.specs.Messages.{tags_of}
+use Rattle.wire.specs.Messages.{tags_by}
 use Rattle.wire.specs.Format.{message, set_values}
 use Rattle.layout.specs.declared.plan.Head.{Head}
 use Rattle.layout.specs.declared.plan.Middle.{Middle}
@@ -38,10 +37,11 @@ barred {is = is} {g = g} f e js a =
     let r = front is js a in
     subst (λ b. Goes b message is g) e f.goes r.0 r.1
 
-pub lays : (h : Head) (m : Middle) (s : Set) (t : Tags) (is : List Item) (ok : ℕ → Bool) (n : ℕ → ℕ) → Fronts h m is (Grammar.field 8 ok (λ x. Grammar.part (n x) (λ _. Grammar.done))) → h.allowed ≡ true → s.bits < 256 → ok s.bits ≡ true → n s.bits ≡ 8 * size s.bits → length (tags_of s.bits t) ≡ 8 * size s.bits → Bytes (tags_of s.bits t)
-    → Lays (is ++ set_values s.bits (tags_of s.bits t)) (record { head = h; middle = m; set = s; tags = t })
-lays h m s t is ok n f e low o k l b =
-    let ts = tags_of s.bits t in
+pub lays : (h : Head) (m : Middle) (q : Tagged) (is : List Item) (ok : ℕ → Bool) (n : ℕ → ℕ) → Fronts h m is (Grammar.field 8 ok (λ x. Grammar.part (n x) (λ _. Grammar.done))) → h.allowed ≡ true → q.set.bits < 256 → ok q.set.bits ≡ true → n q.set.bits ≡ 8 * size q.set.bits → length (tags_by q) ≡ 8 * size q.set.bits → Bytes (tags_by q)
+    → Lays (is ++ set_values q.set.bits (tags_by q)) (record { head = h; middle = m; by = q })
+lays h m q is ok n f e low o k l b =
+    let s = q.set in
+    let ts = tags_by q in
     let hs = head_bytes h in
     let ms = middle_bytes m in
     let form : bits (hs ++ (ms ++ (s.bits ∷ ts))) ≡ spell (is ++ set_values s.bits ts) =

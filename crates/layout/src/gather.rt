@@ -4,19 +4,18 @@ ghost use Rattle.std.specs.Prelude.{◌≡◌};
 ghost use Rattle.layout.specs.Measures.{Evened, Gathered, Replied, proper, most_change};
 
 use crate::measure::count;
-use boards::Set;
-use wire::message::{Entries, Entry, Tags};
+use wire::message::{Entries, Entry, Replies, Tags};
 
 // The highest earlier rank, 0 for none; nothing if an entry is not allowed or there are not as many as boards.
-pub(crate) fn highest(set: Set, entries: Entries<'_>) -> Option<u8>
-    ensures { Gathered set.bits entries.entry result }
+pub(crate) fn highest(replies: Replies<'_>) -> Option<u8>
+    ensures { Gathered replies.entry.set.bits replies.entry.entries result }
 {
-    if !even(set, entries) {
+    if !even(replies) {
         return None;
     }
     let mut top: u8 = 0;
     for board in 0..8 {
-        if let Some((entry, _)) = reply(set, entries, board) {
+        if let Some((entry, _)) = reply(replies, board) {
             if !allowed(entry) {
                 return None;
             }
@@ -27,21 +26,21 @@ pub(crate) fn highest(set: Set, entries: Entries<'_>) -> Option<u8>
 }
 
 // Whether there are nine bytes for each board.
-fn even(set: Set, entries: Entries<'_>) -> bool
-    ensures { Evened set.bits entries.entry result }
+fn even(replies: Replies<'_>) -> bool
+    ensures { Evened replies.entry.set.bits replies.entry.entries result }
 {
-    match entries {
-        Entries::Heard(bytes) => count(bytes) == 9 * set.len() as usize,
+    match replies.entries {
+        Entries::Heard(bytes) => count(bytes) == 9 * replies.set.len() as usize,
         Entries::Stored { .. } => true,
     }
 }
 
 // A board's entry and tag, if it is of the set and its nine bytes are there.
-pub fn reply<'a>(set: Set, entries: Entries<'a>, board: u8) -> Option<(Entry, Tags<'a>)>
-    ensures { Replied set.bits entries.entry board result }
+pub fn reply<'a>(replies: Replies<'a>, board: u8) -> Option<(Entry, Tags<'a>)>
+    ensures { Replied replies.entry.set.bits replies.entry.entries board result }
 {
-    let rank = set.rank(board)?;
-    match entries {
+    let rank = replies.set.rank(board)?;
+    match replies.entries {
         Entries::Heard(bytes) => {
             let at = 9 * (rank as usize - 1);
             if at + 9 > bytes.len() {

@@ -9,7 +9,7 @@ use crate::measure::fits;
 use crate::plan::{Head, Layout, Middle};
 use crate::seal::{alone, proven, sealed};
 use boards::Set;
-use wire::message::{Entries, Entry, Message, Tags};
+use wire::message::{Entry, Message, Replies, Tagged, Tags};
 
 // The layout of a message, if there are bytes that spell it.
 pub fn lay_out<'a>(m: &Message<'a>) -> Option<Layout<'a>>
@@ -22,12 +22,9 @@ pub fn lay_out<'a>(m: &Message<'a>) -> Option<Layout<'a>>
             speaker,
             tag,
         } => alone(noted(1, view, change), Middle::Nothing, speaker, tag),
-        Message::Suggest {
-            view,
-            change,
-            set,
-            tags,
-        } => sealed(noted(2, view, change), Middle::Nothing, set, tags),
+        Message::Suggest { view, change, by } => {
+            sealed(noted(2, view, change), Middle::Nothing, by)
+        }
         Message::Ack {
             view,
             rank,
@@ -39,9 +36,8 @@ pub fn lay_out<'a>(m: &Message<'a>) -> Option<Layout<'a>>
             view,
             rank,
             change,
-            set,
-            tags,
-        } => sealed(graded(4, view, rank, change), Middle::Nothing, set, tags),
+            by,
+        } => sealed(graded(4, view, rank, change), Middle::Nothing, by),
         Message::Ready {
             view,
             rank,
@@ -53,21 +49,15 @@ pub fn lay_out<'a>(m: &Message<'a>) -> Option<Layout<'a>>
             view,
             rank,
             change,
-            set,
-            tags,
-        } => sealed(graded(6, view, rank, change), Middle::Nothing, set, tags),
+            by,
+        } => sealed(graded(6, view, rank, change), Middle::Nothing, by),
         Message::Deputy {
             view,
             rank,
             speaker,
             tag,
         } => alone(ranked(7, view, rank), Middle::Nothing, speaker, tag),
-        Message::Query {
-            view,
-            rank,
-            set,
-            tags,
-        } => sealed(ranked(8, view, rank), Middle::Nothing, set, tags),
+        Message::Query { view, rank, by } => sealed(ranked(8, view, rank), Middle::Nothing, by),
         Message::Last {
             view,
             rank,
@@ -75,22 +65,22 @@ pub fn lay_out<'a>(m: &Message<'a>) -> Option<Layout<'a>>
             entry,
             tag,
             proof,
-            acks,
-        } => last(view, rank, speaker, entry, tag, proof, acks),
+        } => last(view, rank, speaker, entry, tag, proof),
         Message::SuggestLast {
             view,
             rank,
-            set,
-            entries,
+            replies,
             proof,
-            acks,
-        } => suggest_last(view, rank, set, entries, proof, acks),
+        } => suggest_last(view, rank, replies, proof),
         Message::Init { view, content, tag } => {
+            let by = Tagged {
+                set: Set::only(content.sender),
+                tags: tag,
+            };
             sealed(
                 carried(11, view, content),
                 Middle::Payload(content.payload),
-                Set::only(content.sender),
-                tag,
+                by,
             )
         }
         Message::Echo {
@@ -106,17 +96,11 @@ pub fn lay_out<'a>(m: &Message<'a>) -> Option<Layout<'a>>
                 tag,
             )
         }
-        Message::Commit {
-            view,
-            content,
-            set,
-            tags,
-        } => {
+        Message::Commit { view, content, by } => {
             sealed(
                 carried(13, view, content),
                 Middle::Payload(content.payload),
-                set,
-                tags,
+                by,
             )
         }
     }
@@ -129,14 +113,16 @@ fn last<'a>(
     speaker: u8,
     entry: Entry,
     tag: Tags<'a>,
-    proof: Set,
-    acks: Tags<'a>,
+    proof: Tagged<'a>,
 ) -> Option<Layout<'a>>
-    ensures { LaidLast view rank speaker entry tag.entry proof acks.entry result }
+    ensures { LaidLast view rank speaker entry tag.entry proof.entry result }
 {
-    let set = Set::only(speaker);
+    let own = Tagged {
+        set: Set::only(speaker),
+        tags: tag,
+    };
     let h = ranked(9, view, rank)
-        .field(8, set.bits as usize, speaker < 8)
+        .field(8, own.set.bits as usize, speaker < 8)
         .with(4, entry.earlier as usize, 0, 8)
         .with(1, 0, 0, 0)
         .with(
@@ -148,23 +134,21 @@ fn last<'a>(
     let head = Head {
         number: h.number,
         width: h.width,
-        allowed: h.allowed & fits(set, tag),
+        allowed: h.allowed & fits(own),
     };
-    proven(head, Middle::Tag { set, tag }, entry.earlier, proof, acks)
+    proven(head, Middle::Tag(own), entry.earlier, proof)
 }
 
 // The set closes the head; the replies of its boards stand before the proof.
 fn suggest_last<'a>(
     view: u8,
     rank: u8,
-    set: Set,
-    entries: Entries<'a>,
-    proof: Set,
-    acks: Tags<'a>,
+    replies: Replies<'a>,
+    proof: Tagged<'a>,
 ) -> Option<Layout<'a>>
-    ensures { LaidSuggestLast view rank set entries.entry proof acks.entry result }
+    ensures { LaidSuggestLast view rank replies.entry proof.entry result }
 {
-    let top = highest(set, entries)?;
-    let head = ranked(10, view, rank).with(8, set.bits as usize, 0, 255);
-    proven(head, Middle::Replies { set, entries }, top, proof, acks)
+    let top = highest(replies)?;
+    let head = ranked(10, view, rank).with(8, replies.set.bits as usize, 0, 255);
+    proven(head, Middle::Replies(replies), top, proof)
 }

@@ -3,8 +3,7 @@
 ghost use Rattle.std.specs.Prelude.{◌≡◌, ◌<◌, length};
 ghost use Rattle.layout.specs.Measures.{Bytes, Measured};
 
-use boards::Set;
-use wire::message::Tags;
+use wire::message::{Tagged, Tags};
 
 // How many bytes there are.
 pub(crate) fn count(bytes: &[u8]) -> usize
@@ -20,13 +19,13 @@ fn extent(bytes: &[u8]) -> usize
     bytes.len()
 }
 
-// Whether the tags are eight bytes for each board of the set.
-pub(crate) fn fits(set: Set, tags: Tags<'_>) -> bool
-    ensures { Measured set tags.entry result }
+// Whether the tags are eight bytes for each board of their set.
+pub(crate) fn fits(by: Tagged<'_>) -> bool
+    ensures { Measured by.entry result }
 {
-    match tags {
-        Tags::Heard(bytes) => count(bytes) == 8 * set.len() as usize,
+    match by.tags {
+        Tags::Heard(bytes) => count(bytes) == 8 * by.set.len() as usize,
         Tags::Stored(_) => true,
-        Tags::Fresh(_) => set.len() == 1,
+        Tags::Fresh(_) => by.set.len() == 1,
     }
 }

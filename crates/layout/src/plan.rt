@@ -1,7 +1,6 @@
 // The parts of a message in the order in which they are written.
 // A head's fields stand side by side in one number, the first on top. What bytes a layout has: specs/Layouts.antt.
-use boards::Set;
-use wire::message::{Entries, Tags};
+use wire::message::{Replies, Tagged};
 
 // The fields of a message up to its first whole part, and whether the format allows each of them.
 #[derive(Clone, Copy)]
@@ -16,14 +15,13 @@ pub struct Head {
 pub enum Middle<'a> {
     Nothing,
     Payload(&'a [u8]),
-    Tag { set: Set, tag: Tags<'a> },
-    Replies { set: Set, entries: Entries<'a> },
+    Tag(Tagged<'a>),
+    Replies(Replies<'a>),
 }
 
 #[derive(Clone, Copy)]
 pub struct Layout<'a> {
     pub head: Head,
     pub middle: Middle<'a>,
-    pub set: Set,
-    pub tags: Tags<'a>,
+    pub by: Tagged<'a>,
 }

@@ -7,24 +7,14 @@ ghost use Rattle.layout.specs.Layouts.{Sealed, Alone, Proven};
 use crate::measure::fits;
 use crate::plan::{Head, Layout, Middle};
 use boards::Set;
-use wire::message::Tags;
+use wire::message::{Tagged, Tags};
 
 // Any set.
-pub(crate) fn sealed<'a>(
-    head: Head,
-    middle: Middle<'a>,
-    set: Set,
-    tags: Tags<'a>,
-) -> Option<Layout<'a>>
-    ensures { Sealed head middle.entry set tags.entry result }
+pub(crate) fn sealed<'a>(head: Head, middle: Middle<'a>, by: Tagged<'a>) -> Option<Layout<'a>>
+    ensures { Sealed head middle.entry by.entry result }
 {
-    if fits(set, tags) & head.allowed {
-        Some(Layout {
-            head,
-            middle,
-            set,
-            tags,
-        })
+    if fits(by) & head.allowed {
+        Some(Layout { head, middle, by })
     } else {
         None
     }
@@ -40,7 +30,11 @@ pub(crate) fn alone<'a>(
     ensures { Alone head middle.entry speaker tag.entry result }
 {
     if speaker < 8 {
-        sealed(head, middle, Set::only(speaker), tag)
+        let by = Tagged {
+            set: Set::only(speaker),
+            tags: tag,
+        };
+        sealed(head, middle, by)
     } else {
         None
     }
@@ -51,13 +45,12 @@ pub(crate) fn proven<'a>(
     head: Head,
     middle: Middle<'a>,
     top: u8,
-    proof: Set,
-    acks: Tags<'a>,
+    proof: Tagged<'a>,
 ) -> Option<Layout<'a>>
-    ensures { Proven head middle.entry top proof acks.entry result }
+    ensures { Proven head middle.entry top proof.entry result }
 {
-    if called_for(top, proof) {
-        sealed(head, middle, proof, acks)
+    if called_for(top, proof.set) {
+        sealed(head, middle, proof)
     } else {
         None
     }

@@ -2,7 +2,7 @@
 // A tag goes straight to its place: the middle part of what is offered is lent on.
 ghost use Rattle.std.specs.Prelude.{◌≡◌, ◌+◌, ◌*◌, ◌/◌, ◌≤◌, ◌∷◌, length};
 ghost use Rattle.boards.specs.Boards.{size};
-ghost use Rattle.wire.specs.Messages.{tag_bytes, tags_of, stored_tags, replies_of};
+ghost use Rattle.wire.specs.Messages.{tag_bytes, tags_by, stored_tags, replies_by};
 ghost use Rattle.layout.specs.Measures.{Even};
 ghost use Rattle.layout.specs.Layouts.{head_bytes, entry_byte, replies_bytes, middle_bytes, layout_bytes, Whole, Sized};
 ghost use Rattle.writer.specs.Writes.{Put};
@@ -10,7 +10,7 @@ ghost use Rattle.writer.specs.Writes.{Put};
 use boards::Set;
 use layout::gather::reply;
 use layout::plan::{Head, Layout, Middle};
-use wire::message::{Entries, Entry, Tags};
+use wire::message::{Entry, Replies, Tagged, Tags};
 
 // All the parts, and how many bytes they are.
 pub(crate) fn put_layout(out: &mut [u8], layout: &Layout<'_>) -> usize
@@ -19,8 +19,8 @@ pub(crate) fn put_layout(out: &mut [u8], layout: &Layout<'_>) -> usize
 {
     let n = put_head(out, layout.head);
     let n = put_middle(out, n, layout.middle);
-    let n = put(out, n, &[layout.set.bits]);
-    put_tags(out, n, layout.set, layout.tags)
+    let n = put(out, n, &[layout.by.set.bits]);
+    put_tags(out, n, layout.by)
 }
 
 // Copies a part to its place, and answers the place after it.
@@ -50,19 +50,19 @@ fn put_middle(out: &mut [u8], at: usize, middle: Middle<'_>) -> usize
     match middle {
         Middle::Nothing => at,
         Middle::Payload(bytes) => put(out, at, bytes),
-        Middle::Tag { set, tag } => put_tags(out, at, set, tag),
-        Middle::Replies { set, entries } => put_replies(out, at, set, entries),
+        Middle::Tag(by) => put_tags(out, at, by),
+        Middle::Replies(replies) => put_replies(out, at, replies),
     }
 }
 
 // The tags of a set, by rising board number.
-fn put_tags(out: &mut [u8], at: usize, set: Set, tags: Tags<'_>) -> usize
-    requires { at + length (tags_of set.bits tags) ≤ length out.old }
-    ensures { Put out.old at (tags_of set.bits tags.entry) result out.new }
+fn put_tags(out: &mut [u8], at: usize, by: Tagged<'_>) -> usize
+    requires { at + length (tags_by by) ≤ length out.old }
+    ensures { Put out.old at (tags_by by.entry) result out.new }
 {
-    match tags {
+    match by.tags {
         Tags::Heard(bytes) => put(out, at, bytes),
-        Tags::Stored(row) => put_stored(out, at, set, row),
+        Tags::Stored(row) => put_stored(out, at, by.set, row),
         Tags::Fresh(tag) => put_tag(out, at, tag),
     }
 }
@@ -99,24 +99,32 @@ fn write_tag(place: &mut [u8], tag: u64)
 }
 
 // The replies of a set, by rising board number: each entry before its tag.
-fn put_replies(out: &mut [u8], at: usize, set: Set, entries: Entries<'_>) -> usize
-    requires { (at + 9 * size set.bits ≤ length out.old) × (Even set.bits entries) }
-    ensures { Put out.old at (replies_bytes (replies_of set.bits entries.entry)) result out.new }
+fn put_replies(out: &mut [u8], at: usize, replies: Replies<'_>) -> usize
+    requires { (at + 9 * size replies.set.bits ≤ length out.old) × (Even replies.set.bits replies.entries) }
+    ensures { Put out.old at (replies_bytes (replies_by replies.entry)) result out.new }
 {
     let mut n = at;
     for board in 0..8 {
-        if let Some((entry, tag)) = reply(set, entries, board) {
-            n = put_reply(out, n, set, entry, tag);
+        if let Some((entry, tags)) = reply(replies, board) {
+            n = put_reply(
+                out,
+                n,
+                entry,
+                Tagged {
+                    set: replies.set,
+                    tags,
+                },
+            );
         }
     }
     n
 }
 
 // An entry's byte and its tag.
-fn put_reply(out: &mut [u8], at: usize, set: Set, entry: Entry, tag: Tags<'_>) -> usize
-    requires { at + 1 + length (tags_of set.bits tag) ≤ length out.old }
-    ensures { Put out.old at (entry_byte entry ∷ tags_of set.bits tag.entry) result out.new }
+fn put_reply(out: &mut [u8], at: usize, entry: Entry, tag: Tagged<'_>) -> usize
+    requires { at + 1 + length (tags_by tag) ≤ length out.old }
+    ensures { Put out.old at (entry_byte entry ∷ tags_by tag.entry) result out.new }
 {
     let n = put(out, at, &[entry.earlier % 16 * 16 + entry.change % 8]);
-    put_tags(out, n, set, tag)
+    put_tags(out, n, tag)
 }

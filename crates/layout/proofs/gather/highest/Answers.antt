@@ -7,10 +7,10 @@ use Rattle.layout.proofs.gather.highest.Goals as goal
 use Rattle.layout.proofs.gather.highest.Goals.{in-Some+else-not-allowed, in_default}
 
 pub returns-then-not-even : goal.returns-then-not-even
-returns-then-not-even c = uneven c.args.set.bits c.args.entries c.even.result c.even.ensures c.if-not-even.true
+returns-then-not-even c = uneven c.args.replies.set.bits c.args.replies.entries c.even.result c.even.ensures c.if-not-even.true
 
 pub loop-board-init : goal.loop-board-init
-loop-board-init c = begin c.args.set.bits c.args.entries
+loop-board-init c = begin c.args.replies.set.bits c.args.replies.entries
 
 pub returns-then-not-allowed : goal.returns-then-not-allowed
 returns-then-not-allowed c =
@@ -20,8 +20,8 @@ returns-then-not-allowed c =
 
 pub loop-board-preserved : goal.loop-board-preserved
 loop-board-preserved c =
-    let s = c.args.set.bits in
-    let es = c.args.entries in
+    let s = c.args.replies.set.bits in
+    let es = c.args.replies.entries in
     let b = c.loop-board.board in
     elim c.match-reply.branch [
       | in-Some+else-not-allowed w ↦
@@ -34,4 +34,4 @@ loop-board-preserved c =
 pub returns : goal.returns
 returns c =
     let end : c.loop-board.board ≡ 8 = omega arith in
-    finish (evens _ _ _ c.even.ensures c.if-not-even.false) (subst (λ b. Going c.args.set.bits c.args.entries b c.loop-board.top) end c.loop-board.invariant)
+    finish (evens _ _ _ c.even.ensures c.if-not-even.false) (subst (λ b. Going c.args.replies.set.bits c.args.replies.entries b c.loop-board.top) end c.loop-board.invariant)

@@ -4,4 +4,4 @@ use Rattle.layout.specs.Measures.{Going}
 use Rattle.layout.proofs.gather.highest.Given as goal
 
 abbrev pub invariant-loop-board : goal.invariant-loop-board
-invariant-loop-board l = Going l.set.bits l.entries l.board l.top
+invariant-loop-board l = Going l.replies.set.bits l.replies.entries l.board l.top

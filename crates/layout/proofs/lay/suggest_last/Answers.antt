@@ -17,9 +17,9 @@ unfolding proofs
 returns c =
     let w : c.with-head.result.width ≡ 24 = omega arith in
     let held = c.with-head.ensures.holds _ _ _ refl (c.ranked.ensures.holds (Grammar.field 8 (from_to 0 255) (λ s. entries (size s) 0 proofs)) refl) in
-    c.proven.ensures _ (replied proofs c.args.set c.args.entries held (whole 24 w (subst (λ n. c.with-head.result.number < 2 ^ n) w c.with-head.ensures.below) refl (omega arith) (omega arith)) c.in_ok-top.ensures)
+    c.proven.ensures _ (replied proofs c.args.replies held (whole 24 w (subst (λ n. c.with-head.result.number < 2 ^ n) w c.with-head.ensures.below) refl (omega arith) (omega arith)) c.in_ok-top.ensures)
 
 pub returns-in_err-top : goal.returns-in_err-top
 returns-in_err-top c =
-    subst (LaidSuggestLast c.args.view c.args.rank c.args.set c.args.entries c.args.proof c.args.acks) (sym c.from_residual.ensures)
+    subst (LaidSuggestLast c.args.view c.args.rank c.args.replies c.args.proof) (sym c.from_residual.ensures)
     (λ a. c.in_err-top.ensures _ _ (un_num (un_num (un_num (un_num a).2).2).2).2)

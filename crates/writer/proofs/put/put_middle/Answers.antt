@@ -9,9 +9,9 @@ use Rattle.writer.proofs.put.put_middle.Goals as goal
 
 pub put_replies-requires : goal.put_replies-requires
 put_replies-requires c =
-    let s = c.in-Replies.set.bits in
+    let q = c.in-Replies.replies in
     let even = subst Sized c.in-Replies.is c.requires.1 in
-    (omega (arith, subst (λ m. c.args.at + length (middle_bytes m) ≤ length c.args.out.now) c.in-Replies.is c.requires.0, replies_even s c.in-Replies.entries even), even)
+    (omega (arith, subst (λ m. c.args.at + length (middle_bytes m) ≤ length c.args.out.now) c.in-Replies.is c.requires.0, replies_even q.set.bits q.entries even), even)
 
 pub returns-in-Nothing : goal.returns-in-Nothing
 returns-in-Nothing c = subst (λ m. Put c.args.out.now c.args.at (middle_bytes m) c.args.at c.args.out.now) (sym c.in-Nothing.is) (none _ _)

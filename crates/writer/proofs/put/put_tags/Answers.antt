@@ -7,5 +7,5 @@ use Rattle.writer.proofs.put.put_tags.Goals as goal
 
 pub put_stored-requires : goal.put_stored-requires
 put_stored-requires c =
-    let s = c.args.set.bits in
+    let s = c.args.by.set.bits in
     omega (arith, subst (λ t. c.args.at + length (tags_of s t) ≤ length c.args.out.now) c.in-Stored.is c.requires, stored_long s c.in-Stored.row.now)

@@ -7,4 +7,4 @@ use Rattle.writer.proofs.room.of_middle.Goals as goal
 
 pub returns-in-Replies : goal.returns-in-Replies
 returns-in-Replies c =
-    ap (λ n. 9 * n) c.len.ensures.is ∙ sym (replies_even c.in-Replies.set.bits c.in-Replies.entries (subst Sized c.in-Replies.is c.requires)) ∙ sym (ap (λ m. length (middle_bytes m)) c.in-Replies.is)
+    ap (λ n. 9 * n) c.len.ensures.is ∙ sym (replies_even c.in-Replies.replies.set.bits c.in-Replies.replies.entries (subst Sized c.in-Replies.is c.requires)) ∙ sym (ap (λ m. length (middle_bytes m)) c.in-Replies.is)
