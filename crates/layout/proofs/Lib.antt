@@ -1,7 +1,6 @@
 -- The lemmas of layouts, for the layers above.
--- Rests: what may stand first. Joins, Packed: bits. Stored, Replies: rows. Fronts, Seals, Allowed: messages. Long: their lengths.
+-- Rests: what may stand first. Packed: bits. Stored, Replies: rows. Fronts, Seals, Allowed: messages. Long: their lengths.
 pub mod Rests
-pub mod Joins
 pub mod Stored
 pub mod Replies
 pub mod Packed

@@ -4,7 +4,7 @@ use Rattle.std.proofs.Common.{◌≡◌, ℕ, zero, suc, ◌+◌, ◌-◌, ◌*�
 use Rattle.std.specs.List.{AllByRecursion}
 use Rattle.std.proofs.lemmas.List.{append_assoc, append-nil, length-take-le, length-take, length-drop}
 use Rattle.std.proofs.ByRecursion.{All-push, All-take, All-drop}
-use Rattle.std.proofs.lemmas.Bool.{and_parts, and_from, leb-true, cond_both, cases_eq, cases_Bool, eq-eqb, eqb-true}
+use Rattle.std.proofs.lemmas.Bool.{both_ways, and_parts, and_from, leb-true, cond_both, cases_eq, cases_Bool, eq-eqb, eqb-true}
 use Rattle.boards.specs.Boards.{member, size, place, tally, one}
 use Rattle.boards.proofs.Sets.{place_first, place_last, place_below, place_next}
 use Rattle.grammar.specs.Grammar.{Grammar, Item, After, from_to}
@@ -13,8 +13,10 @@ use Rattle.wire.specs.declared.message.Entries.TheVariants.{Heard, Stored}
 use Rattle.wire.specs.Fields.{entered, entries, proof}
 use Rattle.wire.specs.Messages.{Reply, listed, reply_at, replies_in, replies_of}
 use Rattle.wire.specs.Format.{reply_values, replies_values, set_values}
-use Rattle.layout.specs.Measures.{Bytes, Even, Evened, Short, Replied, reply_of, proper, most_change, WholeTag, Going, Gathers, Gathered}
-use Rattle.layout.proofs.Rests.{un_num, un_raw, un_wide, join, cut, clash}
+use Rattle.head.specs.Shapes.{most_change}
+use Rattle.layout.specs.Measures.{Bytes, Even, Evened, Short, Replied, reply_of, proper, WholeTag, Going, Gathers, Gathered}
+use Rattle.grammar.proofs.Held.{onward, rest_after}
+use Rattle.layout.proofs.Rests.{un_num, un_raw, un_wide}
 use Rattle.layout.proofs.Stored.{tag_fits}
 
 one_more : {X : Type 0} (b : Bool) (xs : List X) (x : X) (n : ℕ) → length xs ≡ n → length (xs ++ cond b (x ∷ []) []) ≡ n + one b
@@ -106,7 +108,7 @@ next {s} {es} {b} {top} g m p t =
       goes = λ k.
           subst (λ l. After (entries (size s) 0 k) (replies_values l) (entries (size s - place s (b + 1)) (max top e.entry.earlier) k)) more
           (subst (λ l. After (entries (size s) 0 k) l (entries (size s - place s (b + 1)) (max top e.entry.earlier) k)) (sym (values_append is (e ∷ [])))
-          (join (subst (λ n. After (entries (size s) 0 k) (replies_values is) (entries n top k)) left (g.goes k)) (one_reply e p t _)));
+          (onward (subst (λ n. After (entries (size s) 0 k) (replies_values is) (entries n top k)) left (g.goes k)) (one_reply e p t _)));
       tags = subst (AllByRecursion WholeTag) more (All-push WholeTag is e g.tags t);
     }
 
@@ -176,8 +178,8 @@ improper {s} {es} {b} {top} h g l m e = λ p a after.
     let k : ℕ → Grammar = λ t. proof t Grammar.done in
     let left : size s - place s b ≡ suc (size s - place s b - 1) = omega (arith, place_below s b m) in
     let here = subst (λ n. After (entries (size s) 0 k) (replies_values is) (entries n top k)) left (g.goes k) in
-    let rest = cut (replies_values js ++ set_values p a) here (subst (λ x. After (entries (size s) 0 k) x Grammar.done) all after) in
-    clash (reply_tells rest).0 e
+    let rest = rest_after (replies_values js ++ set_values p a) here (subst (λ x. After (entries (size s) 0 k) x Grammar.done) all after) in
+    absurd (both_ways _ e (reply_tells rest).0)
 
 -- replies before a proof are as many as there are boards, each with its tag
 pub counted : (n top : ℕ) (es : List Reply) (p : ℕ) (a : List ℕ) {l : Grammar} → After (entries n top (λ t. proof t Grammar.done)) (replies_values es ++ set_values p a) l → (length es ≡ n) × AllByRecursion WholeTag es × (length a ≡ 8 * size p)
@@ -210,5 +212,5 @@ uneven s (Heard xs) r v e = λ p a after.
     let c = counted (size s) 0 (replies_in n ys) p a after in
     let many : n ≡ size s = sym (in_long n ys) ∙ c.0 in
     let long = last_whole n ys c.1 in
-    clash (eq-eqb (length ys) (9 * size s) (omega arith)) (sym v.0 ∙ e)
-uneven s (Stored es ts) r v e = clash v e
+    absurd (both_ways _ (sym v.0 ∙ e) (eq-eqb (length ys) (9 * size s) (omega arith)))
+uneven s (Stored es ts) r v e = absurd (both_ways _ e v)

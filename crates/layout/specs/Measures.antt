@@ -1,6 +1,6 @@
 -- What is tested of tags and entries before they are written.
 -- Both are measured against the set that they stand beside.
-use Rattle.std.specs.Prelude.{◌≡◌, ℕ, ◌+◌, ◌-◌, ◌*◌, ◌<◌, Bool, true, cond, ◌&&◌, List, ◌++◌, length, Some, None, Option, ◌==◌, slice_index, slice_index_or}
+use Rattle.std.specs.Prelude.{◌≡◌, ℕ, ◌+◌, ◌-◌, ◌*◌, ◌<◌, Bool, true, ◌&&◌, List, ◌++◌, length, Some, None, Option, ◌==◌, slice_index, slice_index_or}
 use Rattle.std.specs.List.{AllByRecursion}
 use Rattle.boards.specs.Boards.{size, member, place}
 use Rattle.grammar.specs.Grammar.{Grammar, After, from_to}
@@ -9,6 +9,7 @@ use Rattle.wire.specs.declared.message.Tagged.{Tagged}
 use Rattle.wire.specs.declared.message.Entry.{Entry}
 use Rattle.wire.specs.declared.message.Entries.{Entries}
 use Rattle.wire.specs.declared.message.Entries.TheVariants.{Heard, Stored}
+use Rattle.head.specs.Shapes.{most_change}
 use Rattle.wire.specs.Fields.{entries, proof}
 use Rattle.wire.specs.Messages.{Reply, tags_of, tags_by, tag_bytes, none, reply_at, replies_of, listed}
 use Rattle.wire.specs.Format.{replies_values, set_values}
@@ -46,10 +47,6 @@ Short s (Stored es ts) b = ⊥
 abbrev pub Replied : ℕ → Entries → ℕ → Option (Entry × Tags) → Type 0
 Replied s es b (Some x) = (member s b ≡ true) × (x.0 ≡ (reply_of s es b).entry) × (tags_of s x.1 ≡ (reply_of s es b).tag) × (length (tags_of s x.1) ≡ 8)
 Replied s es b None = member s b ≡ true → Short s es b
-
--- The changes that an entry may have: none without an earlier rank.
-abbrev pub most_change : ℕ → ℕ
-most_change e = cond (e == 0) 0 7
 
 -- An entry that the format allows.
 abbrev pub proper : Entry → Bool

@@ -1,9 +1,10 @@
 // The entries of a suggest-last, board by board: whether the format allows each, and the highest earlier rank.
 // Heard and stored entries are gone through alike: board b's reply is `reply_of` in specs/Measures.antt.
 ghost use Rattle.std.specs.Prelude.{◌≡◌};
-ghost use Rattle.layout.specs.Measures.{Evened, Gathered, Replied, proper, most_change};
+ghost use Rattle.layout.specs.Measures.{Evened, Gathered, Replied, proper};
 
 use crate::measure::count;
+use head::shapes::most_change;
 use wire::message::{Entries, Entry, Replies, Tags};
 
 // The highest earlier rank, 0 for none; nothing if an entry is not allowed or there are not as many as boards.
@@ -43,17 +44,8 @@ pub fn reply<'a>(replies: Replies<'a>, board: u8) -> Option<(Entry, Tags<'a>)>
     match replies.entries {
         Entries::Heard(bytes) => {
             let at = 9 * (rank as usize - 1);
-            if at + 9 > bytes.len() {
-                return None;
-            }
-            let b = bytes[at];
-            Some((
-                Entry {
-                    earlier: b / 16,
-                    change: b % 8,
-                },
-                Tags::Heard(&bytes[at + 1..at + 9]),
-            ))
+            let (entry, tag) = bytes.get(at..at + 9)?.split_first()?;
+            Some((Entry::from(*entry), Tags::Heard(tag)))
         }
         Entries::Stored { entries, tags } => Some((
             entries[board as usize],
@@ -67,11 +59,4 @@ fn allowed(e: Entry) -> bool
     ensures { result ≡ proper e }
 {
     e.earlier <= 8 && e.change <= most_change(e.earlier)
-}
-
-// The changes that an entry may have: none without an earlier rank.
-pub(crate) fn most_change(earlier: u8) -> u8
-    ensures { result ≡ most_change earlier }
-{
-    if earlier == 0 { 0 } else { 7 }
 }

@@ -1,20 +1,13 @@
 // Whether tags are what the format wants beside a set: eight bytes for each of its boards.
 // Where they lie, heard, stored or fresh, makes no difference to the bytes: specs of crate wire, Messages.antt.
-ghost use Rattle.std.specs.Prelude.{◌≡◌, ◌<◌, length};
+ghost use Rattle.std.specs.Prelude.{◌≡◌, length};
 ghost use Rattle.layout.specs.Measures.{Bytes, Measured};
 
 use wire::message::{Tagged, Tags};
 
-// How many bytes there are.
+// How many bytes there are; of a slice that is a parameter the proof knows that they are bytes.
 pub(crate) fn count(bytes: &[u8]) -> usize
     ensures { (result ≡ length bytes.now) × Bytes bytes.now }
-{
-    extent(bytes)
-}
-
-// The length alone; a call that takes the slice lets the proof above know that it holds bytes.
-fn extent(bytes: &[u8]) -> usize
-    ensures { result ≡ length bytes.now }
 {
     bytes.len()
 }

@@ -1,14 +1,7 @@
 // The parts of a message in the order in which they are written.
-// A head's fields stand side by side in one number, the first on top. What bytes a layout has: specs/Layouts.antt.
+// What bytes a layout has: specs/Layouts.antt.
+use head::number::Head;
 use wire::message::{Replies, Tagged};
-
-// The fields of a message up to its first whole part, and whether the format allows each of them.
-#[derive(Clone, Copy)]
-pub struct Head {
-    pub number: u32,
-    pub width: u8,
-    pub allowed: bool,
-}
 
 // What stands between the head and the last set: a payload, the tag of a last, or the entries of a suggest-last.
 #[derive(Clone, Copy)]
@@ -19,9 +12,15 @@ pub enum Middle<'a> {
     Replies(Replies<'a>),
 }
 
+// All before the last set.
 #[derive(Clone, Copy)]
-pub struct Layout<'a> {
+pub struct Front<'a> {
     pub head: Head,
     pub middle: Middle<'a>,
+}
+
+#[derive(Clone, Copy)]
+pub struct Layout<'a> {
+    pub front: Front<'a>,
     pub by: Tagged<'a>,
 }

@@ -1,24 +1,25 @@
 // The parts of a layout, each at its own place in the bytes offered, and each byte written once.
 // A tag goes straight to its place: the middle part of what is offered is lent on.
-ghost use Rattle.std.specs.Prelude.{◌≡◌, ◌+◌, ◌*◌, ◌/◌, ◌≤◌, ◌∷◌, length};
+ghost use Rattle.std.specs.Prelude.{◌≡◌, ◌+◌, ◌*◌, ◌%◌, ◌≤◌, ◌∷◌, length};
 ghost use Rattle.boards.specs.Boards.{size};
 ghost use Rattle.wire.specs.Messages.{tag_bytes, tags_by, stored_tags, replies_by};
 ghost use Rattle.layout.specs.Measures.{Even};
-ghost use Rattle.layout.specs.Layouts.{head_bytes, entry_byte, replies_bytes, middle_bytes, layout_bytes, Whole, Sized};
+ghost use Rattle.layout.specs.Layouts.{head_bytes, entry_byte, replies_bytes, middle_bytes, layout_bytes, Sized};
 ghost use Rattle.writer.specs.Writes.{Put};
 
 use boards::Set;
+use head::number::Head;
 use layout::gather::reply;
-use layout::plan::{Head, Layout, Middle};
+use layout::plan::{Layout, Middle};
 use wire::message::{Entry, Replies, Tagged, Tags};
 
 // All the parts, and how many bytes they are.
 pub(crate) fn put_layout(out: &mut [u8], layout: &Layout<'_>) -> usize
-    requires { (length (layout_bytes layout.now) ≤ length out.old) × ((Whole layout.now.head) × (Sized layout.now.middle)) }
+    requires { (length (layout_bytes layout.now) ≤ length out.old) × ((layout.now.front.head.width % 8 ≡ 0) × (Sized layout.now.front.middle)) }
     ensures { Put out.old 0 (layout_bytes layout.now) result out.new }
 {
-    let n = put_head(out, layout.head);
-    let n = put_middle(out, n, layout.middle);
+    let n = put_head(out, layout.front.head);
+    let n = put_middle(out, n, layout.front.middle);
     let n = put(out, n, &[layout.by.set.bits]);
     put_tags(out, n, layout.by)
 }
@@ -35,11 +36,11 @@ fn put(out: &mut [u8], at: usize, part: &[u8]) -> usize
 
 // A head at the front.
 fn put_head(out: &mut [u8], head: Head) -> usize
-    requires { (Whole head) × (length (head_bytes head) ≤ length out.old) }
+    requires { (head.width % 8 ≡ 0) × (length (head_bytes head) ≤ length out.old) }
     ensures { Put out.old 0 (head_bytes head) result out.new }
 {
-    let bytes = (head.number << (32 - head.width)).to_be_bytes();
-    put(out, 0, &bytes[0..(head.width / 8) as usize])
+    let bytes = head.bytes();
+    put(out, 0, &bytes[..(head.width / 8) as usize])
 }
 
 // What stands between the head and the last set.

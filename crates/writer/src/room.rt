@@ -9,10 +9,11 @@ use wire::message::{Tagged, Tags};
 
 // The bytes of all the parts.
 pub(crate) fn needed(layout: &Layout<'_>) -> usize
-    requires { (length (layout_bytes layout.now) ≤ 141) × (Sized layout.now.middle) }
+    requires { (length (layout_bytes layout.now) ≤ 141) × (Sized layout.now.front.middle) }
     ensures { result ≡ length (layout_bytes layout.now) }
 {
-    (layout.head.width / 8) as usize + of_middle(layout.middle) + 1 + of_tags(layout.by)
+    let front = layout.front;
+    (front.head.width / 8) as usize + of_middle(front.middle) + 1 + of_tags(layout.by)
 }
 
 // The bytes of what stands between the head and the last set.
