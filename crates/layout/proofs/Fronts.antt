@@ -22,24 +22,24 @@ use Rattle.wire.specs.Fields.{entries}
 use Rattle.wire.specs.Messages.{Reply, tags_by, replies_of, replies_by, listed}
 use Rattle.wire.specs.Format.{message, replies_values}
 use Rattle.wire.proofs.Widths.{wide}
+use Rattle.layout.specs.declared.plan.Gathered.{Gathered}
 use Rattle.layout.specs.declared.plan.Middle.{Middle}
 use Rattle.layout.specs.declared.plan.Middle.TheVariants.{Nothing, Payload, Tag, Replies}
 use Rattle.layout.specs.Measures.{Bytes, WholeTag, Even, reply_of, Gathers}
-use Rattle.layout.specs.Layouts.{Bare, Fronts, Sized, middle_bytes, replies_bytes}
+use Rattle.layout.specs.Layouts.{Bare, Fronts, middle_bytes, replies_bytes}
 use Rattle.layout.specs.declared.plan.Front.{Front}
 use Rattle.layout.proofs.Packed.{bytes, head_bits}
 use Rattle.layout.proofs.Replies.{all_listed, listed_long, replies_listed, tag_long}
 
 -- A head of whole bytes, and a middle that a message goes on with.
-pub fronted : {h : Head} {is : List Item} {g k : Grammar} (m : Middle) (js : List Item) → Holds message h is k → wide is % 8 ≡ 0 → bits (middle_bytes m) ≡ spell js → Bytes (middle_bytes m) → length (middle_bytes m) ≤ 72 → Sized m → After k js g → Fronts (record { head = h; middle = m }) (is ++ js) g
-fronted {h} {is} m js p w e f l s a =
+pub fronted : {h : Head} {is : List Item} {g k : Grammar} (m : Middle) (js : List Item) → Holds message h is k → wide is % 8 ≡ 0 → bits (middle_bytes m) ≡ spell js → Bytes (middle_bytes m) → length (middle_bytes m) ≤ 72 → After k js g → Fronts (record { head = h; middle = m }) (is ++ js) g
+fronted {h} {is} m js p w e f l a =
     let whole : h.width % 8 ≡ 0 = ap (λ n. n % 8) (wide_as p) ∙ w in
     record {
       form = bits_append _ (middle_bytes m) ∙ (λ i. (head_bits h whole ∙ p.form) i ++ e i) ∙ sym (spell_append is js);
       whole = whole;
       fit = f;
       short = l;
-      even = s;
       goes = onward p.goes a;
     }
 
@@ -48,13 +48,13 @@ unfolding bits spell
 nothing = refl
 
 pub plain : {h : Head} {is : List Item} {g : Grammar} → Holds message h is g → wide is % 8 ≡ 0 → Fronts (record { head = h; middle = Nothing }) (is ++ []) g
-plain p w = fronted Nothing [] p w nothing tt (omega arith) tt After.start
+plain p w = fronted Nothing [] p w nothing tt (omega arith) After.start
 
 pub loaded : {h : Head} {is : List Item} {g : Grammar} (p : Bor (List ℕ)) → Holds message h is (Grammar.part (length p.now) (λ _. g)) → wide is % 8 ≡ 0 → Bytes p.now → length p.now ≤ 72 → Fronts (record { head = h; middle = Payload p }) (is ++ Item.raw p.now ∷ []) g
-loaded p o w f l = fronted (Payload p) (Item.raw p.now ∷ []) o w (bytes p.now) f l tt (After.then_raw refl f After.start)
+loaded p o w f l = fronted (Payload p) (Item.raw p.now ∷ []) o w (bytes p.now) f l (After.then_raw refl f After.start)
 
 pub tagged : {h : Head} {is : List Item} {g : Grammar} (q : Tagged) → Holds message h is (Grammar.part 8 (λ _. g)) → wide is % 8 ≡ 0 → Bytes (tags_by q) → length (tags_by q) ≡ 8 → Fronts (record { head = h; middle = Tag q }) (is ++ Item.raw (tags_by q) ∷ []) g
-tagged q o w f l = fronted (Tag q) (Item.raw (tags_by q) ∷ []) o w (bytes (tags_by q)) f (omega arith) tt (After.then_raw l f After.start)
+tagged q o w f l = fronted (Tag q) (Item.raw (tags_by q) ∷ []) o w (bytes (tags_by q)) f (omega arith) (After.then_raw l f After.start)
 
 -- the bits of an entry's byte
 entry_bits : (e c : ℕ) → bits_of 8 (e % 16 * 16 + c % 8) ≡ bits_of 4 e ++ (bits_of 1 0 ++ bits_of 3 c)
@@ -94,10 +94,12 @@ listed_bytes s es e b =
 pub replies_even : (s : ℕ) (es : Entries) → Even s es → length (replies_bytes (replies_of s es)) ≡ 9 * size s
 replies_even s es e = ap (λ l. length (replies_bytes l)) (replies_listed s es e) ∙ listed_bytes s es e 8 ∙ ap (λ n. 9 * n) (place_last s)
 
-pub replied : {h : Head} {is : List Item} {top : ℕ} (k : ℕ → Grammar) (q : RepliesOf) → Holds message h is (entries (size q.set.bits) 0 k) → wide is % 8 ≡ 0 → Gathers q.set.bits q.entries top → Fronts (record { head = h; middle = Replies q }) (is ++ replies_values (replies_by q)) (k top)
-replied k q o w g =
+pub replied : {h : Head} {is : List Item} (k : ℕ → Grammar) (x : Gathered) (q : RepliesOf) → x.replies ≡ q → Holds message h is (entries (size q.set.bits) 0 k) → wide is % 8 ≡ 0 → Gathers q.set.bits q.entries x.top → Fronts (record { head = h; middle = Replies x }) (is ++ replies_values (replies_by q)) (k x.top)
+replied k x q e o w g =
     let rs = replies_by q in
-    fronted (Replies q) (replies_values rs) o w (replies_bits rs) (replies_fit rs g.tags) (omega (arith, replies_even q.set.bits q.entries g.even, size_le q.set.bits)) g.even (g.goes k)
+    let y = x.replies in
+    fronted (Replies x) (replies_values rs) o w (ap (λ z. bits (replies_bytes (replies_by z))) e ∙ replies_bits rs) (subst (λ z. Bytes (replies_bytes (replies_by z))) (sym e) (replies_fit rs g.tags))
+    (omega (arith, replies_even y.set.bits y.entries x.even, size_le y.set.bits)) (g.goes k)
 
 -- a front by its parts
 pub bare : {f : Front} {h : Head} {is : List Item} {g : Grammar} → Bare h f → Fronts (record { head = h; middle = Nothing }) is g → Fronts f is g

@@ -1,5 +1,5 @@
 -- The lemmas of layouts, for the layers above.
--- Rests: what may stand first. Packed: bits. Stored, Replies: rows. Fronts, Seals, Allowed: messages. Long: their lengths.
+-- Rests: what may stand first. Packed: bits. Stored, Replies: rows. Fronts, Seals, Allowed: messages.
 pub mod Rests
 pub mod Stored
 pub mod Replies
@@ -7,4 +7,3 @@ pub mod Packed
 pub mod Seals
 pub mod Fronts
 pub mod Allowed
-pub mod Long

@@ -14,7 +14,7 @@ use Rattle.wire.specs.Fields.{entered, entries, proof}
 use Rattle.wire.specs.Messages.{Reply, listed, reply_at, replies_in, replies_of}
 use Rattle.wire.specs.Format.{reply_values, replies_values, set_values}
 use Rattle.head.specs.Shapes.{most_change}
-use Rattle.layout.specs.Measures.{Bytes, Even, Evened, Short, Replied, reply_of, proper, WholeTag, Going, Gathers, Gathered}
+use Rattle.layout.specs.Measures.{Bytes, Even, Evened, Short, Replied, reply_of, proper, WholeTag, Going, Gathers, Ungathered}
 use Rattle.grammar.proofs.Held.{onward, rest_after}
 use Rattle.layout.proofs.Rests.{un_num, un_raw, un_wide}
 use Rattle.layout.proofs.Stored.{tag_fits}
@@ -124,7 +124,7 @@ skip {s} {es} {b} {top} g m =
 
 pub evens : (s : ℕ) (es : Entries) (r : Bool) → Evened s es r → r ≡ true → Even s es
 evens s (Heard xs) r v e = eqb-true _ _ (sym v.0 ∙ e)
-evens s (Stored es ts) r v e = tt
+evens s (Stored es ts) r v e = refl
 
 there : (s : ℕ) (es : Entries) (b : ℕ) → Even s es → member s b ≡ true → Short s es b → ⊥
 there s (Heard xs) b e m h = omega (arith, e, h, place_below s b m)
@@ -163,11 +163,10 @@ finish {s} {es} {top} h g =
       goes = λ k. let P : List Reply → ℕ → Type 0 = λ l n. After (entries (size s) 0 k) (replies_values l) (entries n top k) in
           subst (λ n. P (replies_of s es) n) none (subst (λ l. P l (size s - place s 8)) all (g.goes k));
       tags = subst (AllByRecursion WholeTag) all g.tags;
-      even = h;
     }
 
 -- an entry that is not allowed
-pub improper : {s : ℕ} {es : Entries} {b top : ℕ} → Even s es → Going s es b top → b < 8 → member s b ≡ true → proper (reply_of s es b).entry ≡ false → Gathered s es None
+pub improper : {s : ℕ} {es : Entries} {b top : ℕ} → Even s es → Going s es b top → b < 8 → member s b ≡ true → proper (reply_of s es b).entry ≡ false → Ungathered s es
 unfolding entries replies_values
 improper {s} {es} {b} {top} h g l m e = λ p a after.
     let is = listed (member s) (reply_of s es) b in
@@ -205,7 +204,7 @@ last_whole (suc n) xs t =
     omega (arith, length-take 8 (drop (9 * n + 1) xs), length-drop (9 * n + 1) xs, r.0)
 
 -- heard entries that are not nine bytes for each board
-pub uneven : (s : ℕ) (es : Entries) (r : Bool) → Evened s es r → r ≡ false → Gathered s es None
+pub uneven : (s : ℕ) (es : Entries) (r : Bool) → Evened s es r → r ≡ false → Ungathered s es
 uneven s (Heard xs) r v e = λ p a after.
     let ys = xs.now in
     let n = (length ys + 8) / 9 in

@@ -49,7 +49,6 @@ lays f q is ok n p low o k l b =
       form = packed_is _ _ fit form;
       whole = p.whole;
       short = simp length-append (omega (arith, head_long f.head, f.head.narrow, p.short, l, size_le s.bits));
-      even = p.even;
     }
 
 -- tags that do not fit the set

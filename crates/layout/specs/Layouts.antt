@@ -19,7 +19,8 @@ use Rattle.layout.specs.declared.plan.Front.{Front}
 use Rattle.layout.specs.declared.plan.Layout.{Layout}
 use Rattle.layout.specs.declared.plan.Middle.{Middle}
 use Rattle.layout.specs.declared.plan.Middle.TheVariants.{Nothing, Payload, Tag, Replies}
-use Rattle.layout.specs.Measures.{Bytes, Even}
+use Rattle.layout.specs.declared.plan.Gathered.{Gathered}
+use Rattle.layout.specs.Measures.{Bytes, Gathers, Ungathered}
 
 -- The bytes of a head: its bits, eight a byte.
 abbrev pub head_bytes : Head → List ℕ
@@ -39,7 +40,7 @@ abbrev pub middle_bytes : Middle → List ℕ
 middle_bytes Nothing = []
 middle_bytes (Payload p) = p.now
 middle_bytes (Tag q) = tags_by q
-middle_bytes (Replies q) = replies_bytes (replies_by q)
+middle_bytes (Replies q) = replies_bytes (replies_by q.replies)
 
 -- The bytes of what stands before the last set.
 abbrev pub front_bytes : Front → List ℕ
@@ -49,20 +50,12 @@ front_bytes f = head_bytes f.head ++ middle_bytes f.middle
 abbrev pub layout_bytes : Layout → List ℕ
 layout_bytes l = front_bytes l.front ++ (l.by.set.bits ∷ tags_by l.by)
 
--- Entries among what stands between fit their set.
-abbrev pub Sized : Middle → Type 0
-Sized Nothing = Unit {0}
-Sized (Payload p) = Unit {0}
-Sized (Tag q) = Unit {0}
-Sized (Replies q) = Even q.set.bits q.entries
-
 -- What stands before the last set is whole bytes, and they are those of these fields, after which a message may go on as g.
 pub record Fronts (f : Front) (is : List Item) (g : Grammar) : Type 0 where
   pub form : bits (front_bytes f) ≡ spell is
   pub whole : f.head.width % 8 ≡ 0
   pub fit : Bytes (middle_bytes f.middle)
   pub short : length (middle_bytes f.middle) ≤ 72
-  pub even : Sized f.middle
   pub goes : After message is g
 
 -- The layout of the message with these fields.
@@ -71,7 +64,6 @@ pub record Lays (is : List Item) (l : Layout) : Type 0 where
   pub form : layout_bytes l ≡ packed is
   pub whole : l.front.head.width % 8 ≡ 0
   pub short : length (layout_bytes l) ≤ 141
-  pub even : Sized l.front.middle
 
 -- Fields that the format allows have a layout, and no others.
 abbrev pub Laid : List Item → Option Layout → Type 0
@@ -112,6 +104,11 @@ Behind h p f = (f ≡ record { head = h; middle = Payload p }) × Bytes p.now
 pub record Loaded (kind v : ℕ) (c : Content) (r : Option Front) : Type 0 where
   pub fronts : (f : Front) → r ≡ Some f → from_to 1 13 kind ≡ true → (k : ℕ → Grammar) → body kind ≡ carried k → Fronts f (opening kind v (content_values c.sender c.number c.sort c.payload.now [])) (k c.sender)
   pub none : r ≡ None → from_to 1 13 kind ≡ true → (k : ℕ → Grammar) → body kind ≡ carried k → Barred message (opening kind v (content_values c.sender c.number c.sort c.payload.now []))
+
+-- Replies with their highest earlier rank; none if they may not stand before a proof.
+pub record MayGather (q : RepliesOf) (r : Option Gathered) : Type 0 where
+  pub some : (x : Gathered) → r ≡ Some x → (x.replies ≡ q) × Gathers q.set.bits q.entries x.top
+  pub none : r ≡ None → Ungathered q.set.bits q.entries
 
 -- The layout of a last whose head so far has kind, view and rank, with the tag of its own board.
 abbrev pub LaidLast : Head → Entry → Tagged → Tagged → Option Layout → Type 0

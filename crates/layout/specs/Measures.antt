@@ -23,10 +23,14 @@ pub record Measured (q : Tagged) (r : Bool) : Type 0 where
   pub told : r ≡ (length (tags_by q) == 8 * size q.set.bits)
   pub fit : Bytes (tags_by q)
 
--- Entries as heard are nine bytes for each board of the set.
+-- The bytes that entries and tags of a set have: as heard those that there are, as stored nine for each board.
+abbrev pub extent : ℕ → Entries → ℕ
+extent s (Heard xs) = length xs.now
+extent s (Stored es ts) = 9 * size s
+
+-- Entries and tags are nine bytes for each board of the set.
 abbrev pub Even : ℕ → Entries → Type 0
-Even s (Heard xs) = length xs.now ≡ 9 * size s
-Even s (Stored es ts) = Unit {0}
+Even s es = extent s es ≡ 9 * size s
 
 -- Whether they are; what is heard is bytes.
 abbrev pub Evened : ℕ → Entries → Bool → Type 0
@@ -65,9 +69,7 @@ pub record Going (s : ℕ) (es : Entries) (b top : ℕ) : Type 0 where
 pub record Gathers (s : ℕ) (es : Entries) (top : ℕ) : Type 0 where
   pub goes : (k : ℕ → Grammar) → After (entries (size s) 0 k) (replies_values (replies_of s es)) (k top)
   pub tags : AllByRecursion WholeTag (replies_of s es)
-  pub even : Even s es
 
--- The highest earlier rank, or that the replies may not stand before a proof.
-abbrev pub Gathered : ℕ → Entries → Option ℕ → Type 0
-Gathered s es (Some top) = Gathers s es top
-Gathered s es None = (p : ℕ) (a : List ℕ) → After (entries (size s) 0 (λ top. proof top Grammar.done)) (replies_values (replies_of s es) ++ set_values p a) Grammar.done → ⊥
+-- The replies may not stand before a proof.
+abbrev pub Ungathered : ℕ → Entries → Type 0
+Ungathered s es = (p : ℕ) (a : List ℕ) → After (entries (size s) 0 (λ top. proof top Grammar.done)) (replies_values (replies_of s es) ++ set_values p a) Grammar.done → ⊥

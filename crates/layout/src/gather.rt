@@ -1,15 +1,17 @@
 // The entries of a suggest-last, board by board: whether the format allows each, and the highest earlier rank.
 // Heard and stored entries are gone through alike: board b's reply is `reply_of` in specs/Measures.antt.
 ghost use Rattle.std.specs.Prelude.{◌≡◌};
-ghost use Rattle.layout.specs.Measures.{Evened, Gathered, Replied, proper};
+ghost use Rattle.layout.specs.Measures.{Evened, Replied, proper};
+ghost use Rattle.layout.specs.Layouts.{MayGather};
 
 use crate::measure::count;
+use crate::plan::Gathered;
 use head::shapes::most_change;
 use wire::message::{Entries, Entry, Replies, Tags};
 
-// The highest earlier rank, 0 for none; nothing if an entry is not allowed or there are not as many as boards.
-pub(crate) fn highest(replies: Replies<'_>) -> Option<u8>
-    ensures { Gathered replies.entry.set.bits replies.entry.entries result }
+// The replies with their highest earlier rank; none if an entry is not allowed or there are not as many as boards.
+pub(crate) fn gather<'a>(replies: Replies<'a>) -> Option<Gathered<'a>>
+    ensures { MayGather replies.entry result }
 {
     if !even(replies) {
         return None;
@@ -23,7 +25,7 @@ pub(crate) fn highest(replies: Replies<'_>) -> Option<u8>
             top = top.max(entry.earlier);
         }
     }
-    Some(top)
+    Some(Gathered { replies, top })
 }
 
 // Whether there are nine bytes for each board.

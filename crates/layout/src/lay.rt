@@ -4,7 +4,7 @@ ghost use Rattle.wire.specs.Kinds.{kind_number};
 ghost use Rattle.wire.specs.Messages.{meaning};
 ghost use Rattle.layout.specs.Layouts.{Bare, Behind, LaidOut, LaidLast, LaidSuggestLast, Loaded};
 
-use crate::gather::highest;
+use crate::gather::gather;
 use crate::measure::fits;
 use crate::plan::{Front, Layout, Middle};
 use crate::seal::own;
@@ -143,9 +143,11 @@ fn last<'a>(head: Head, entry: Entry, own: Tagged<'a>, proof: Tagged<'a>) -> Opt
 fn suggest_last<'a>(head: Head, replies: Replies<'a>, proof: Tagged<'a>) -> Option<Layout<'a>>
     ensures { LaidSuggestLast head replies.entry proof.entry result }
 {
+    let head = head.field(8, replies.set.bits as usize)?;
+    let gathered = gather(replies)?;
     let front = Front {
-        head: head.field(8, replies.set.bits as usize)?,
-        middle: Middle::Replies(replies),
+        head,
+        middle: Middle::Replies(gathered),
     };
-    front.proven(highest(replies)?, proof)
+    front.proven(gathered.top, proof)
 }

@@ -1,7 +1,17 @@
 // The parts of a message in the order in which they are written.
 // What bytes a layout has: specs/Layouts.antt.
+ghost use Rattle.layout.specs.Measures.{Even};
+
 use head::number::Head;
 use wire::message::{Replies, Tagged};
+
+// Replies that may stand before a proof, with their highest earlier rank, 0 for none.
+#[derive(Clone, Copy)]
+pub struct Gathered<'a> {
+    pub replies: Replies<'a>,
+    pub top: u8,
+    ghost even: { Even replies.set.bits replies.entries },
+}
 
 // What stands between the head and the last set: a payload, the tag of a last, or the entries of a suggest-last.
 #[derive(Clone, Copy)]
@@ -9,7 +19,7 @@ pub enum Middle<'a> {
     Nothing,
     Payload(&'a [u8]),
     Tag(Tagged<'a>),
-    Replies(Replies<'a>),
+    Replies(Gathered<'a>),
 }
 
 // All before the last set.

@@ -3,19 +3,18 @@
 ghost use Rattle.std.specs.Prelude.{◌≡◌, ◌+◌, ◌*◌, ◌%◌, ◌≤◌, ◌∷◌, length};
 ghost use Rattle.boards.specs.Boards.{size};
 ghost use Rattle.wire.specs.Messages.{tag_bytes, tags_by, stored_tags, replies_by};
-ghost use Rattle.layout.specs.Measures.{Even};
-ghost use Rattle.layout.specs.Layouts.{head_bytes, entry_byte, replies_bytes, middle_bytes, layout_bytes, Sized};
+ghost use Rattle.layout.specs.Layouts.{head_bytes, entry_byte, replies_bytes, middle_bytes, layout_bytes};
 ghost use Rattle.writer.specs.Writes.{Put};
 
 use boards::Set;
 use head::number::Head;
 use layout::gather::reply;
-use layout::plan::{Layout, Middle};
-use wire::message::{Entry, Replies, Tagged, Tags};
+use layout::plan::{Gathered, Layout, Middle};
+use wire::message::{Entry, Tagged, Tags};
 
 // All the parts, and how many bytes they are.
 pub(crate) fn put_layout(out: &mut [u8], layout: &Layout<'_>) -> usize
-    requires { (length (layout_bytes layout.now) ≤ length out.old) × ((layout.now.front.head.width % 8 ≡ 0) × (Sized layout.now.front.middle)) }
+    requires { (length (layout_bytes layout.now) ≤ length out.old) × (layout.now.front.head.width % 8 ≡ 0) }
     ensures { Put out.old 0 (layout_bytes layout.now) result out.new }
 {
     let n = put_head(out, layout.front.head);
@@ -45,14 +44,14 @@ fn put_head(out: &mut [u8], head: Head) -> usize
 
 // What stands between the head and the last set.
 fn put_middle(out: &mut [u8], at: usize, middle: Middle<'_>) -> usize
-    requires { (at + length (middle_bytes middle) ≤ length out.old) × (Sized middle) }
+    requires { at + length (middle_bytes middle) ≤ length out.old }
     ensures { Put out.old at (middle_bytes middle.entry) result out.new }
 {
     match middle {
         Middle::Nothing => at,
         Middle::Payload(bytes) => put(out, at, bytes),
         Middle::Tag(by) => put_tags(out, at, by),
-        Middle::Replies(replies) => put_replies(out, at, replies),
+        Middle::Replies(gathered) => put_replies(out, at, gathered),
     }
 }
 
@@ -82,28 +81,20 @@ fn put_stored(out: &mut [u8], at: usize, set: Set, row: &[u64; 8]) -> usize
     n
 }
 
-// A tag at its place, and the place after it.
+// A tag at its place, the top byte first.
 fn put_tag(out: &mut [u8], at: usize, tag: u64) -> usize
     requires { at + 8 ≤ length out.old }
     ensures { Put out.old at (tag_bytes tag) result out.new }
 {
-    write_tag(&mut out[at..at + 8], tag);
-    at + 8
-}
-
-// A tag over the whole of its place, the top byte first.
-fn write_tag(place: &mut [u8], tag: u64)
-    requires { length place.old ≡ 8 }
-    ensures { place.new ≡ tag_bytes tag }
-{
-    place.copy_from_slice(&tag.to_be_bytes());
+    put(out, at, &tag.to_be_bytes())
 }
 
 // The replies of a set, by rising board number: each entry before its tag.
-fn put_replies(out: &mut [u8], at: usize, replies: Replies<'_>) -> usize
-    requires { (at + 9 * size replies.set.bits ≤ length out.old) × (Even replies.set.bits replies.entries) }
-    ensures { Put out.old at (replies_bytes (replies_by replies.entry)) result out.new }
+fn put_replies(out: &mut [u8], at: usize, gathered: Gathered<'_>) -> usize
+    requires { at + 9 * size gathered.replies.set.bits ≤ length out.old }
+    ensures { Put out.old at (replies_bytes (replies_by gathered.entry.replies)) result out.new }
 {
+    let replies = gathered.replies;
     let mut n = at;
     for board in 0..8 {
         if let Some((entry, tags)) = reply(replies, board) {

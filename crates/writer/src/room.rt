@@ -2,14 +2,14 @@
 // No layout of a message has more than 141, so that the sums fit: specs of crate layout, Layouts.antt.
 ghost use Rattle.std.specs.Prelude.{◌≡◌, ◌+◌, ◌<◌, ◌≤◌, length};
 ghost use Rattle.wire.specs.Messages.{tags_by};
-ghost use Rattle.layout.specs.Layouts.{layout_bytes, middle_bytes, Sized};
+ghost use Rattle.layout.specs.Layouts.{layout_bytes, middle_bytes};
 
 use layout::plan::{Layout, Middle};
 use wire::message::{Tagged, Tags};
 
 // The bytes of all the parts.
 pub(crate) fn needed(layout: &Layout<'_>) -> usize
-    requires { (length (layout_bytes layout.now) ≤ 141) × (Sized layout.now.front.middle) }
+    requires { length (layout_bytes layout.now) ≤ 141 }
     ensures { result ≡ length (layout_bytes layout.now) }
 {
     let front = layout.front;
@@ -18,14 +18,13 @@ pub(crate) fn needed(layout: &Layout<'_>) -> usize
 
 // The bytes of what stands between the head and the last set.
 fn of_middle(middle: Middle<'_>) -> usize
-    requires { Sized middle }
     ensures { result ≡ length (middle_bytes middle.entry) }
 {
     match middle {
         Middle::Nothing => 0,
         Middle::Payload(bytes) => bytes.len(),
         Middle::Tag(by) => of_tags(by),
-        Middle::Replies(replies) => 9 * replies.set.len() as usize,
+        Middle::Replies(gathered) => 9 * gathered.replies.set.len() as usize,
     }
 }
 

@@ -14,16 +14,18 @@ use Rattle.layout.proofs.lay.suggest_last.Goals as goal
 abbrev after : ℕ → Grammar
 after top = proof top Grammar.done
 
-pub returns-in_err-field : goal.returns-in_err-field
-returns-in_err-field c = λ v r p. unlaid _ c.from_residual.ensures ((step p c.in_err-field.ensures (any_set {s = c.args.replies.set.bits} (omega arith)) (omega arith, omega (arith, wide_as p))).none refl)
+pub returns-in_err-head : goal.returns-in_err-head
+returns-in_err-head c = λ v r p. unlaid _ c.from_residual.ensures ((step p c.in_err-head.ensures (any_set {s = c.args.replies.set.bits} (omega arith)) (omega arith, omega (arith, wide_as p))).none refl)
 
 pub returns : goal.returns
 returns c = λ v r p.
-    let set = (step p c.in_ok-field.ensures (any_set {s = c.args.replies.set.bits} (omega arith)) (omega arith, omega (arith, wide_as p))).holds _ refl in
-    c.proven.ensures _ (replied after c.args.replies set refl c.in_ok-highest.ensures)
+    let set = (step p c.in_ok-head.ensures (any_set {s = c.args.replies.set.bits} (omega arith)) (omega arith, omega (arith, wide_as p))).holds _ refl in
+    let x = c.in_ok-gathered.gathered in
+    let g = c.in_ok-gathered.ensures.some x refl in
+    c.proven.ensures _ (replied after x c.args.replies g.0 set refl g.1)
 
-pub returns-in_err-highest : goal.returns-in_err-highest
-returns-in_err-highest c = λ v r p.
-    let set = (step p c.in_ok-field.ensures (any_set {s = c.args.replies.set.bits} (omega arith)) (omega arith, omega (arith, wide_as p))).holds _ refl in
+pub returns-in_err-gathered : goal.returns-in_err-gathered
+returns-in_err-gathered c = λ v r p.
+    let set = (step p c.in_ok-head.ensures (any_set {s = c.args.replies.set.bits} (omega arith)) (omega arith, omega (arith, wide_as p))).holds _ refl in
     let q = c.args.proof in
-    unlaid_at (replies_values (replies_by c.args.replies) ++ set_values q.set.bits (tags_by q)) c.from_residual-in_err-highest.ensures set.goes (c.in_err-highest.ensures q.set.bits (tags_by q))
+    unlaid_at (replies_values (replies_by c.args.replies) ++ set_values q.set.bits (tags_by q)) c.from_residual-in_err-gathered.ensures set.goes (c.in_err-gathered.ensures.none refl q.set.bits (tags_by q))

@@ -6,10 +6,10 @@ use Rattle.writer.proofs.Lengths.{layout_long, layout_parts}
 use Rattle.writer.proofs.put.put_layout.Goals as goal
 
 pub put_head-n-requires : goal.put_head-n-requires
-put_head-n-requires c = (c.requires.1.0, omega (arith, layout_long c.args.layout.now, c.requires.0))
+put_head-n-requires c = (c.requires.1, omega (arith, layout_long c.args.layout.now, c.requires.0))
 
 pub put_middle-n-requires : goal.put_middle-n-requires
-put_middle-n-requires c = (omega (arith, layout_long c.args.layout.now, c.requires.0, c.put_head-n.ensures.place), c.requires.1.1)
+put_middle-n-requires c = omega (arith, layout_long c.args.layout.now, c.requires.0, c.put_head-n.ensures.place)
 
 pub put-n-requires : goal.put-n-requires
 put-n-requires c = omega (arith, layout_long c.args.layout.now, c.requires.0, c.put_head-n.ensures.place, c.put_middle-n.ensures.place)

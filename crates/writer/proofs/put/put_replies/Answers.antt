@@ -11,30 +11,30 @@ use Rattle.writer.proofs.put.put_replies.Goals as goal
 use Rattle.writer.proofs.put.put_replies.Goals.{in-Some, in_default}
 
 pub loop-board-init : goal.loop-board-init
-loop-board-init c = same (answers_none c.args.replies.set.bits c.args.replies.entries) (none _ _)
+loop-board-init c = same (answers_none c.args.gathered.replies.set.bits c.args.gathered.replies.entries) (none _ _)
 
 pub put_reply-n-requires : goal.put_reply-n-requires
 put_reply-n-requires c =
-    let s = c.args.replies.set.bits in
+    let s = c.args.gathered.replies.set.bits in
     let b = c.loop-board.board in
     let r = c.in-Some.ensures in
-    omega (arith, c.loop-board.invariant.place, listed_bytes s c.args.replies.entries c.requires.1 b, place_below s b r.0, r.3)
+    omega (arith, c.loop-board.invariant.place, listed_bytes s c.args.gathered.replies.entries c.args.gathered.even b, place_below s b r.0, r.3)
 
 pub loop-board-preserved : goal.loop-board-preserved
 loop-board-preserved c =
-    let s = c.args.replies.set.bits in
-    let es = c.args.replies.entries in
+    let s = c.args.gathered.replies.set.bits in
+    let es = c.args.gathered.replies.entries in
     let b = c.loop-board.board in
     elim c.match-reply.branch [
       | in-Some w ↦
           let r = w.in-Some.ensures in
           reached w.n-is w.out-is (same (ap (λ x. answers s es b ++ x) (λ i. entry_byte (r.1 i) ∷ r.2 i) ∙ answers_in s es b r.0) (more (omega arith) c.loop-board.invariant w.put_reply-n.ensures))
-      | in_default w ↦ reached w.n-is w.out-is (same (answers_out s es b (absent s es b c.requires.1 w.in_default.ensures)) c.loop-board.invariant)
+      | in_default w ↦ reached w.n-is w.out-is (same (answers_out s es b (absent s es b c.args.gathered.even w.in_default.ensures)) c.loop-board.invariant)
     ]
 
 pub returns : goal.returns
 returns c =
-    let s = c.args.replies.set.bits in
-    let es = c.args.replies.entries in
+    let s = c.args.gathered.replies.set.bits in
+    let es = c.args.gathered.replies.entries in
     let end : c.loop-board.board ≡ 8 = omega arith in
-    same (ap (answers s es) end ∙ ap replies_bytes (sym (replies_listed s es c.requires.1))) c.loop-board.invariant
+    same (ap (answers s es) end ∙ ap replies_bytes (sym (replies_listed s es c.args.gathered.even))) c.loop-board.invariant

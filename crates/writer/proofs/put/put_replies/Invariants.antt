@@ -5,4 +5,4 @@ use Rattle.writer.proofs.Rows.{answers}
 use Rattle.writer.proofs.put.put_replies.Given as goal
 
 abbrev pub invariant-loop-board : goal.invariant-loop-board
-invariant-loop-board l = Put l.initial.out l.at (answers l.replies.set.bits l.replies.entries l.board) l.n l.out
+invariant-loop-board l = Put l.initial.out l.at (answers l.gathered.replies.set.bits l.gathered.replies.entries l.board) l.n l.out
