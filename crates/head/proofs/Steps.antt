@@ -1,6 +1,6 @@
 -- One more field of what a grammar allows, or of what a table has for a kind.
 -- What may not stand first may not with more behind it, so that a chain stops where a field is not allowed.
-use Rattle.std.proofs.Common.{◌≡◌, ℕ, ◌+◌, ◌^◌, ◌≤◌, Bool, true, ◌&&◌, ltb, leb, List, [], ◌∷◌, ◌++◌, length, Some, None, Option, sym, refl, ap, ◌∙◌, subst, arith, length-append}
+use Rattle.std.proofs.Common.{◌≡◌, ℕ, ◌+◌, ◌^◌, ◌≤◌, Bool, true, ◌&&◌, ltb, leb, List, [], ◌∷◌, ◌++◌, length, Some, None, Option, sym, refl, ap, ◌∙◌, subst, length-append}
 use Rattle.std.proofs.lemmas.Bool.{and_from, and_parts, both_ways, leb-true, lt-ltb}
 use Rattle.grammar.specs.Bits.{bits_of}
 use Rattle.grammar.specs.Grammar.{Grammar, Item, After, spell}

@@ -1,7 +1,7 @@
 -- Heads that state an act: a shape of head in the table of signed words.
 -- What a table has for the kind, antt computes.
-use Rattle.std.proofs.Common.{◌≡◌, ℕ, ◌%◌, List, ◌++◌, Some, Option, sym, ap, subst, ◌∙◌}
-use Rattle.grammar.specs.Grammar.{Grammar, Item}
+use Rattle.std.proofs.Common.{◌≡◌, ◌%◌, List, ◌++◌, Option, sym, ap, subst, ◌∙◌}
+use Rattle.grammar.specs.Grammar.{Item}
 use Rattle.head.specs.declared.number.Head.{Head}
 use Rattle.head.specs.Heads.{Begins}
 use Rattle.head.proofs.Steps.{wide_as}

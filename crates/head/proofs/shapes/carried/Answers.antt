@@ -1,7 +1,7 @@
 -- Sender, number, sort and length after kind and view; the sort says which lengths there are.
 -- The payload itself comes next in a table.
-use Rattle.std.proofs.Common.{◌≡◌, cond, eqb, [], ◌∷◌, length, sym, refl, ap}
-use Rattle.grammar.specs.Grammar.{Item, from_to}
+use Rattle.std.proofs.Common.{length, sym, refl, ap}
+use Rattle.grammar.specs.Grammar.{from_to}
 use Rattle.wire.specs.Fields.{carried}
 use Rattle.head.proofs.Steps.{along, named, on, stop}
 use Rattle.head.proofs.shapes.carried.Goals as goal

@@ -1,10 +1,9 @@
 -- Earlier rank, a zero bit and a change; without an earlier rank there is no change.
 -- There is room for each since there is for all.
-use Rattle.std.proofs.Common.{◌≡◌, ℕ, [], ◌∷◌, ◌++◌, List, Option, sym, refl, subst, arith}
+use Rattle.std.proofs.Common.{[], ◌∷◌, List, sym, refl, subst, arith}
 use Rattle.std.proofs.lemmas.List.{append_assoc}
-use Rattle.grammar.specs.Grammar.{Grammar, Item, from_to}
+use Rattle.grammar.specs.Grammar.{Item, from_to}
 use Rattle.head.specs.Heads.{Begins}
-use Rattle.head.specs.Shapes.{entry_values}
 use Rattle.head.proofs.Steps.{barred_more, no_head, step, wider}
 use Rattle.head.proofs.shapes.entered.Goals as goal
 

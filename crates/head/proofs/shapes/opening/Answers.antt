@@ -1,6 +1,6 @@
 -- Kind and view, from nothing; a kind's number fits its field.
 -- A table that has the kind goes on with the view, and then with what it has for the kind.
-use Rattle.std.proofs.Common.{◌≡◌, [], ◌∷◌, refl, subst, arith}
+use Rattle.std.proofs.Common.{[], ◌∷◌, refl, subst, arith}
 use Rattle.grammar.specs.Grammar.{Item}
 use Rattle.wire.specs.Kinds.{kind_number}
 use Rattle.wire.specs.Format.{opening}

@@ -1,6 +1,6 @@
 -- The speaker's set and entry in the head, then its tag, then the proof.
 -- The tag is eight bytes, since the set is of one board.
-use Rattle.std.proofs.Common.{◌≡◌, ℕ, ◌∷◌, ◌*◌, length, eqb, sym, refl, ◌∙◌, arith}
+use Rattle.std.proofs.Common.{◌≡◌, ℕ, ◌∷◌, ◌*◌, length, sym, refl, ◌∙◌, arith}
 use Rattle.std.proofs.lemmas.Bool.{both_ways, eq-eqb, eqb-true}
 use Rattle.boards.specs.Boards.{size}
 use Rattle.grammar.specs.Grammar.{Grammar, Item}

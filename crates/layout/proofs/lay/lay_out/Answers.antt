@@ -1,6 +1,6 @@
 -- Each kind by its head and its end; a kind whose head may not stand has no layout.
 -- What the table has for the kind, antt computes.
-use Rattle.std.proofs.Common.{◌≡◌, ℕ, ◌<◌, ◌∷◌, true, refl, ap, ◌∙◌, subst, arith}
+use Rattle.std.proofs.Common.{◌≡◌, ℕ, ◌∷◌, true, refl, ap, ◌∙◌, subst, arith}
 use Rattle.std.proofs.lemmas.Bool.{and_from, both_ways, le-leb}
 use Rattle.boards.specs.Boards.{size, only}
 use Rattle.boards.proofs.Sets.{size_only}

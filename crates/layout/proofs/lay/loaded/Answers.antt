@@ -1,6 +1,6 @@
 -- A head with a payload after it.
 -- Its length is small, as the table has it.
-use Rattle.std.proofs.Common.{◌≡◌, [], ◌∷◌, Some, None, sym, refl, ◌∙◌, subst, arith}
+use Rattle.std.proofs.Common.{[], ◌∷◌, sym, refl, ◌∙◌, subst, arith}
 use Rattle.std.proofs.lemmas.Option.{same_Some}
 use Rattle.grammar.specs.Grammar.{Item, from_to}
 use Rattle.head.proofs.Steps.{barred_more}

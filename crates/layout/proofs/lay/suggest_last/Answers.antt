@@ -1,6 +1,6 @@
 -- The set in the head, then the replies of its boards.
 -- Then the proof for the highest earlier rank.
-use Rattle.std.proofs.Common.{◌≡◌, ℕ, ◌++◌, refl, arith}
+use Rattle.std.proofs.Common.{ℕ, ◌++◌, refl, arith}
 use Rattle.grammar.specs.Grammar.{Grammar}
 use Rattle.head.proofs.Steps.{step, wide_as}
 use Rattle.wire.specs.Fields.{proof}

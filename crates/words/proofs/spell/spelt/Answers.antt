@@ -1,6 +1,6 @@
 -- A head's bytes and then the payload, in one array, are the words of what the head states.
 -- A payload that is too long is that of no act that is allowed.
-use Rattle.std.proofs.Common.{◌≡◌, ◌-◌, ◌/◌, ◌<◌, ◌++◌, take, ap, ◌∙◌, arith}
+use Rattle.std.proofs.Common.{◌<◌}
 use Rattle.std.proofs.ByRecursion.{All-from_get_or}
 use Rattle.words.specs.Said.{text}
 use Rattle.words.proofs.Spelling.{bits_of_words, words_are, too_long}

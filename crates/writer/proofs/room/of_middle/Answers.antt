@@ -1,6 +1,6 @@
 -- Replies are nine bytes for each board.
 -- What else may stand there needs no proof here.
-use Rattle.std.proofs.Common.{◌*◌, length, sym, ap, ◌∙◌, subst}
+use Rattle.std.proofs.Common.{◌*◌, length, sym, ap, ◌∙◌}
 use Rattle.layout.specs.Layouts.{middle_bytes}
 use Rattle.layout.proofs.Fronts.{replies_even}
 use Rattle.writer.proofs.room.of_middle.Goals as goal

@@ -1,13 +1,9 @@
 -- Each lone kind by its shape of head.
 -- What the table of signed words has for the kind, antt computes.
-use Rattle.std.proofs.Common.{◌≡◌, [], ◌∷◌, Option, sym, refl, subst, arith}
-use Rattle.grammar.specs.Grammar.{Grammar, Item}
-use Rattle.head.specs.declared.number.Head.{Head}
+use Rattle.std.proofs.Common.{refl, arith}
+use Rattle.grammar.specs.Grammar.{Grammar}
 use Rattle.head.specs.Shapes.{entry_byte, entry_values}
 use Rattle.head.proofs.Steps.{barred_more, no_head, wide_as}
-use Rattle.words.specs.Said.{said}
-use Rattle.words.specs.Openings.{Stated}
-use Rattle.words.specs.declared.statement.Statement.{Statement}
 use Rattle.words.proofs.Stating.{known, states}
 use Rattle.words.proofs.statement.Statement.head.Goals as goal
 
