@@ -1,6 +1,6 @@
 -- The bytes of a layout, and when it is the layout of a message.
 -- Fields of a message are items in the order in which they are written; their bytes are `packed`.
-use Rattle.std.specs.Prelude.{◌≡◌, ℕ, ◌+◌, ◌*◌, ◌/◌, ◌%◌, ◌<◌, ◌≤◌, Bool, true, List, [], ◌∷◌, ◌++◌, length, Some, None, Option}
+use Rattle.std.specs.Prelude.{◌≡◌, ℕ, ◌+◌, ◌*◌, ◌/◌, ◌%◌, ◌<◌, ◌≤◌, Bool, true, false, List, [], ◌∷◌, ◌++◌, length, Some, None, Option}
 use Rattle.std.specs.Borrow.{Bor}
 use Rattle.boards.specs.Boards.{size, only}
 use Rattle.grammar.specs.Bits.{bits, bits_of, bytes_of}
@@ -12,7 +12,7 @@ use Rattle.wire.specs.declared.message.Entry.{Entry}
 use Rattle.wire.specs.declared.message.Tags.{Tags}
 use Rattle.wire.specs.declared.message.Tagged.{Tagged}
 use Rattle.wire.specs.declared.message.Replies.{Replies as RepliesOf}
-use Rattle.wire.specs.Fields.{carried, entered, entries, lone, lone_tag, proof}
+use Rattle.wire.specs.Fields.{carried, entered, entries, lone, proof}
 use Rattle.wire.specs.Messages.{Msg, Reply, tags_of, tags_by, replies_by}
 use Rattle.wire.specs.Format.{message, body, opening, content_values, packed, reply_values, replies_values, set_values, values}
 use Rattle.layout.specs.declared.plan.Front.{Front}
@@ -80,9 +80,10 @@ abbrev pub Sealed : Front → Tagged → Option Layout → Type 0
 Sealed f q r =
     (is : List Item) (ok : ℕ → Bool) (n : ℕ → ℕ) → Fronts f is (Grammar.field 8 ok (λ x. Grammar.part (n x) (λ _. Grammar.done))) → (q.set.bits < 256 → ok q.set.bits ≡ true) → n q.set.bits ≡ 8 * size q.set.bits → Laid (is ++ set_values q.set.bits (tags_by q)) r
 
--- A front before just one board and its tag.
+-- A front before just one board and its tag, where the format allows that set exactly if there is such a board.
 abbrev pub Alone : Front → ℕ → Tags → Option Layout → Type 0
-Alone f b t r = (is : List Item) → Fronts f is (lone_tag Grammar.done) → Laid (is ++ set_values (only b) (tags_of (only b) t)) r
+Alone f b t r =
+    (is : List Item) (ok : ℕ → Bool) → Fronts f is (Grammar.field 8 ok (λ _. Grammar.part 8 (λ _. Grammar.done))) → (b < 8 → ok (only b) ≡ true) → (8 ≤ b → ok (only b) ≡ false) → Laid (is ++ set_values (only b) (tags_of (only b) t)) r
 
 -- A front before a proof for the highest earlier rank.
 abbrev pub Proven : Front → ℕ → Tagged → Option Layout → Type 0

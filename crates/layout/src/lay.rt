@@ -8,13 +8,13 @@ use crate::gather::gather;
 use crate::measure::fits;
 use crate::plan::{Front, Layout, Middle};
 use crate::seal::own;
-use boards::Set;
 use head::number::Head;
 use head::shapes::{carried, entered, graded, noted, ranked};
 use wire::kind::Kind;
 use wire::message::{Content, Entry, Message, Replies, Tagged};
 
 // The layout of a message, if there are bytes that spell it.
+// An arm for each kind: two kinds of one shape in one arm would be no shorter, since each names its fields anyway.
 pub fn lay_out<'a>(m: &Message<'a>) -> Option<Layout<'a>>
     ensures { LaidOut (meaning m.now) result }
 {
@@ -81,11 +81,7 @@ pub fn lay_out<'a>(m: &Message<'a>) -> Option<Layout<'a>>
             proof,
         } => suggest_last(ranked(Kind::SuggestLast, view, rank)?, replies, proof),
         Message::Init { view, content, tag } => {
-            let by = Tagged {
-                set: Set::only(content.sender),
-                tags: tag,
-            };
-            loaded(Kind::Init, view, content)?.sealed(by)
+            loaded(Kind::Init, view, content)?.alone(content.sender, tag)
         }
         Message::Echo {
             view,

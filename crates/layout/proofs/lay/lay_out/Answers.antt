@@ -1,15 +1,14 @@
 -- Each kind by its head and its end; a kind whose head may not stand has no layout.
 -- What the table has for the kind, antt computes.
-use Rattle.std.proofs.Common.{◌≡◌, ℕ, ◌∷◌, true, refl, ap, ◌∙◌, subst, arith}
+use Rattle.std.proofs.Common.{◌≡◌, ◌<◌, ℕ, ◌∷◌, [], true, refl, ap, ◌∙◌, subst, arith}
 use Rattle.std.proofs.lemmas.Bool.{and_from, both_ways, le-leb}
 use Rattle.boards.specs.Boards.{size, only}
-use Rattle.boards.proofs.Sets.{size_only}
 use Rattle.grammar.specs.Grammar.{Grammar, Item, from_to}
 use Rattle.grammar.proofs.Held.{held}
 use Rattle.wire.specs.declared.message.Tags.{Tags}
 use Rattle.wire.specs.Fields.{entered, entries, lone, lone_tag, proof, tagged, own_tag}
 use Rattle.wire.specs.Messages.{tags_by, tags_of}
-use Rattle.wire.specs.Format.{body, opening, content_values, reply_values, set_values}
+use Rattle.wire.specs.Format.{body, opening, reply_values, set_values}
 use Rattle.layout.specs.Layouts.{Laid}
 use Rattle.layout.proofs.Fronts.{bare, plain}
 use Rattle.layout.proofs.Seals.{lone_above, lone_below, unlaid, unlaid_at}
@@ -30,7 +29,7 @@ pub returns-in_err-noted-in-Notify : goal.returns-in_err-noted-in-Notify
 returns-in_err-noted-in-Notify c = known _ c.in-Notify.is (unlaid _ c.from_residual.ensures ((c.in_err-noted-in-Notify.ensures.begins (from_to 1 13) body (lone_tag Grammar.done) refl refl).none refl))
 
 pub returns-in_ok-noted-in-Notify : goal.returns-in_ok-noted-in-Notify
-returns-in_ok-noted-in-Notify c = known _ c.in-Notify.is (c.alone.ensures _ (bare c.bare.ensures (plain ((c.in_ok-noted-in-Notify.ensures.begins (from_to 1 13) body (lone_tag Grammar.done) refl refl).holds _ refl) refl)))
+returns-in_ok-noted-in-Notify c = known _ c.in-Notify.is (c.alone.ensures _ _ (bare c.bare.ensures (plain ((c.in_ok-noted-in-Notify.ensures.begins (from_to 1 13) body (lone_tag Grammar.done) refl refl).holds _ refl) refl)) (lone_below c.in-Notify.speaker) (lone_above c.in-Notify.speaker))
 
 pub returns-in_err-noted-in-Suggest : goal.returns-in_err-noted-in-Suggest
 returns-in_err-noted-in-Suggest c = known _ c.in-Suggest.is (unlaid _ c.from_residual-in_err-noted-in-Suggest.ensures ((c.in_err-noted-in-Suggest.ensures.begins (from_to 1 13) body (tagged Grammar.done) refl refl).none refl))
@@ -42,7 +41,7 @@ pub returns-in_err-graded-in-Ack : goal.returns-in_err-graded-in-Ack
 returns-in_err-graded-in-Ack c = known _ c.in-Ack.is (unlaid _ c.from_residual-in_err-graded-in-Ack.ensures ((c.in_err-graded-in-Ack.ensures.begins (from_to 1 13) body (lone_tag Grammar.done) refl refl).none refl))
 
 pub returns-in_ok-graded-in-Ack : goal.returns-in_ok-graded-in-Ack
-returns-in_ok-graded-in-Ack c = known _ c.in-Ack.is (c.alone-in-Ack.ensures _ (bare c.bare-in-Ack.ensures (plain ((c.in_ok-graded-in-Ack.ensures.begins (from_to 1 13) body (lone_tag Grammar.done) refl refl).holds _ refl) refl)))
+returns-in_ok-graded-in-Ack c = known _ c.in-Ack.is (c.alone-in-Ack.ensures _ _ (bare c.bare-in-Ack.ensures (plain ((c.in_ok-graded-in-Ack.ensures.begins (from_to 1 13) body (lone_tag Grammar.done) refl refl).holds _ refl) refl)) (lone_below c.in-Ack.speaker) (lone_above c.in-Ack.speaker))
 
 pub returns-in_err-graded-in-Proposal : goal.returns-in_err-graded-in-Proposal
 returns-in_err-graded-in-Proposal c = known _ c.in-Proposal.is (unlaid _ c.from_residual-in_err-graded-in-Proposal.ensures ((c.in_err-graded-in-Proposal.ensures.begins (from_to 1 13) body (tagged Grammar.done) refl refl).none refl))
@@ -54,7 +53,7 @@ pub returns-in_err-graded-in-Ready : goal.returns-in_err-graded-in-Ready
 returns-in_err-graded-in-Ready c = known _ c.in-Ready.is (unlaid _ c.from_residual-in_err-graded-in-Ready.ensures ((c.in_err-graded-in-Ready.ensures.begins (from_to 1 13) body (lone_tag Grammar.done) refl refl).none refl))
 
 pub returns-in_ok-graded-in-Ready : goal.returns-in_ok-graded-in-Ready
-returns-in_ok-graded-in-Ready c = known _ c.in-Ready.is (c.alone-in-Ready.ensures _ (bare c.bare-in-Ready.ensures (plain ((c.in_ok-graded-in-Ready.ensures.begins (from_to 1 13) body (lone_tag Grammar.done) refl refl).holds _ refl) refl)))
+returns-in_ok-graded-in-Ready c = known _ c.in-Ready.is (c.alone-in-Ready.ensures _ _ (bare c.bare-in-Ready.ensures (plain ((c.in_ok-graded-in-Ready.ensures.begins (from_to 1 13) body (lone_tag Grammar.done) refl refl).holds _ refl) refl)) (lone_below c.in-Ready.speaker) (lone_above c.in-Ready.speaker))
 
 pub returns-in_err-graded-in-Change : goal.returns-in_err-graded-in-Change
 returns-in_err-graded-in-Change c = known _ c.in-Change.is (unlaid _ c.from_residual-in_err-graded-in-Change.ensures ((c.in_err-graded-in-Change.ensures.begins (from_to 1 13) body (tagged Grammar.done) refl refl).none refl))
@@ -66,7 +65,7 @@ pub returns-in_err-ranked-in-Deputy : goal.returns-in_err-ranked-in-Deputy
 returns-in_err-ranked-in-Deputy c = known _ c.in-Deputy.is (unlaid _ c.from_residual-in_err-ranked-in-Deputy.ensures ((c.in_err-ranked-in-Deputy.ensures.begins (from_to 1 13) body (lone_tag Grammar.done) refl refl).none refl))
 
 pub returns-in_ok-ranked-in-Deputy : goal.returns-in_ok-ranked-in-Deputy
-returns-in_ok-ranked-in-Deputy c = known _ c.in-Deputy.is (c.alone-in-Deputy.ensures _ (bare c.bare-in-Deputy.ensures (plain ((c.in_ok-ranked-in-Deputy.ensures.begins (from_to 1 13) body (lone_tag Grammar.done) refl refl).holds _ refl) refl)))
+returns-in_ok-ranked-in-Deputy c = known _ c.in-Deputy.is (c.alone-in-Deputy.ensures _ _ (bare c.bare-in-Deputy.ensures (plain ((c.in_ok-ranked-in-Deputy.ensures.begins (from_to 1 13) body (lone_tag Grammar.done) refl refl).holds _ refl) refl)) (lone_below c.in-Deputy.speaker) (lone_above c.in-Deputy.speaker))
 
 pub returns-in_err-ranked-in-Query : goal.returns-in_err-ranked-in-Query
 returns-in_err-ranked-in-Query c = known _ c.in-Query.is (unlaid _ c.from_residual-in_err-ranked-in-Query.ensures ((c.in_err-ranked-in-Query.ensures.begins (from_to 1 13) body (tagged Grammar.done) refl refl).none refl))
@@ -80,7 +79,7 @@ returns-in_err-ranked-in-Last c = known _ c.in-Last.is (unlaid _ c.from_residual
 pub returns-in_err-own-in-Last : goal.returns-in_err-own-in-Last
 returns-in_err-own-in-Last c =
     let h = (c.in_ok-ranked-in-Last.ensures.begins (from_to 1 13) body after_last refl refl).holds _ refl in
-    known _ c.in-Last.is (unlaid_at _ c.from_residual-in_err-own-in-Last.ensures h.goes (λ a. both_ways _ (lone_above c.in-Last.speaker (c.in_err-own-in-Last.ensures.none refl)) (held a).2))
+    known _ c.in-Last.is (unlaid_at {is = opening 9 c.in-Last.view (Item.num 4 c.in-Last.rank ∷ [])} _ c.from_residual-in_err-own-in-Last.ensures h.goes (λ a. both_ways _ (lone_above c.in-Last.speaker (c.in_err-own-in-Last.ensures.none refl)) (held a).2))
 
 pub returns-in_ok-own-in-Last : goal.returns-in_ok-own-in-Last
 returns-in_ok-own-in-Last c =
@@ -106,16 +105,14 @@ pub returns-in_ok-loaded-in-Init : goal.returns-in_ok-loaded-in-Init
 returns-in_ok-loaded-in-Init c =
     let x = c.in-Init.content in
     let f = c.in_ok-loaded-in-Init.ensures.fronts _ refl refl own_tag refl in
-    let e : c.only.result.bits ≡ only x.sender = c.only.ensures in
-    known _ c.in-Init.is
-    (subst (λ s. Laid (opening 11 c.in-Init.view (content_values x.sender x.number x.sort x.payload.now (set_values s (tags_of s c.in-Init.tag)))) c.sealed-in-Init.result) e
-    (c.sealed-in-Init.ensures _ _ _ f (λ _. ap (from_to (only x.sender) (only x.sender)) e ∙ itself (only x.sender)) (omega (arith, ap size e, size_only x.sender (carried_small {f = own_tag} refl f.goes).0))))
+    let small : x.sender < 8 = (carried_small {f = own_tag} refl f.goes).0 in
+    known _ c.in-Init.is (c.alone-in-Init.ensures _ _ f (λ _. itself (only x.sender)) (λ h. absurd (omega arith)))
 
 pub returns-in_err-loaded-in-Echo : goal.returns-in_err-loaded-in-Echo
 returns-in_err-loaded-in-Echo c = known _ c.in-Echo.is (unlaid _ c.from_residual-in_err-loaded-in-Echo.ensures (c.in_err-loaded-in-Echo.ensures.none refl refl (λ _. lone_tag Grammar.done) refl))
 
 pub returns-in_ok-loaded-in-Echo : goal.returns-in_ok-loaded-in-Echo
-returns-in_ok-loaded-in-Echo c = known _ c.in-Echo.is (c.alone-in-Echo.ensures _ (c.in_ok-loaded-in-Echo.ensures.fronts _ refl refl (λ _. lone_tag Grammar.done) refl))
+returns-in_ok-loaded-in-Echo c = known _ c.in-Echo.is (c.alone-in-Echo.ensures _ _ (c.in_ok-loaded-in-Echo.ensures.fronts _ refl refl (λ _. lone_tag Grammar.done) refl) (lone_below c.in-Echo.speaker) (lone_above c.in-Echo.speaker))
 
 pub returns-in_err-loaded-in-Commit : goal.returns-in_err-loaded-in-Commit
 returns-in_err-loaded-in-Commit c = known _ c.in-Commit.is (unlaid _ c.from_residual-in_err-loaded-in-Commit.ensures (c.in_err-loaded-in-Commit.ensures.none refl refl (λ _. tagged Grammar.done) refl))
