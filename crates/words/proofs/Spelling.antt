@@ -1,13 +1,13 @@
 -- Words put together: their bits are those of the head's fields and then of the payload, so they are the words of the act.
--- Where a field is not allowed or the payload is too long, the act is not allowed either.
-use Rattle.std.proofs.Common.{◌≡◌, ℕ, ◌/◌, ◌%◌, ◌<◌, ◌≤◌, List, ◌++◌, length, take, Some, None, Option, sym, refl, ap, ◌∙◌, subst, arith}
+-- Where a field is not allowed, the act is not allowed either.
+use Rattle.std.proofs.Common.{◌≡◌, ℕ, ◌/◌, ◌%◌, ◌<◌, List, ◌++◌, take, Some, None, Option, sym, refl, ap, ◌∙◌, subst}
 use Rattle.std.proofs.lemmas.List.{append-nil}
 use Rattle.std.proofs.ByRecursion.{All-take, All-append}
 use Rattle.grammar.specs.Bits.{bits, bits_of}
 use Rattle.grammar.specs.Grammar.{Grammar, After, spell}
 use Rattle.grammar.proofs.Bits.{bits_append}
 use Rattle.grammar.proofs.Cuts.{spell_append}
-use Rattle.grammar.proofs.Held.{held, onward}
+use Rattle.grammar.proofs.Held.{onward}
 use Rattle.head.specs.declared.number.Head.{Head}
 use Rattle.head.specs.Heads.{BytesOf}
 use Rattle.head.proofs.Joins.{first_bits}
@@ -15,7 +15,6 @@ use Rattle.head.proofs.Steps.{barred_more}
 use Rattle.wire.specs.Reads.{ByteList}
 use Rattle.wire.specs.Acts.{Act, Allowed, words, signed, signed_values}
 use Rattle.wire.proofs.Packed.{packed_is}
-use Rattle.wire.proofs.Signs.{payload_le}
 use Rattle.words.specs.Openings.{Stated, load, loaded, room}
 
 -- The bits of words are those of the head's fields and then of the payload, and the words are bytes.
@@ -30,16 +29,6 @@ bits_of_words h bs p t m b f e = record {
   fit = subst ByteList (sym e) (All-append (λ x. x < 256) (take (h.width / 8) bs) p (All-take (λ x. x < 256) (h.width / 8) bs b.fit) f);
   load_fit = f;
 }
-
--- An allowed act carries at most 48 bytes.
-load_short : (a : Act) → Allowed a → length (load a) ≤ 48
-load_short (Act.notify v c) h = omega arith
-load_short (Act.ack v r c) h = omega arith
-load_short (Act.ready v r c) h = omega arith
-load_short (Act.deputy v r) h = omega arith
-load_short (Act.last v r e) h = omega arith
-load_short (Act.init v s n k p) h = payload_le k (length p) (held h).3.3.3.3.3.2
-load_short (Act.echo v s n k p) h = payload_le k (length p) (held h).3.3.3.3.3.2
 
 -- A payload as the table wants it, and its bits.
 load_stands : (a : Act) → ByteList (load a) → After (room a) (loaded a) Grammar.done
@@ -71,7 +60,3 @@ words_are h p t q a s e =
 -- An act without a head is not allowed.
 pub no_head : (a : Act) (r : Option Head) → Stated a r → r ≡ None → Allowed a → ⊥
 no_head a r s n f = barred_more (loaded a) (s.begins.none n) Grammar.done (subst (λ y. After signed y Grammar.done) s.split f)
-
--- Nor is one whose payload is too long.
-pub too_long : (p : List ℕ) → 48 < length p → (a : Act) → load a ≡ p → Allowed a → ⊥
-too_long p l a e f = let m = load_short a f in omega (arith, m, l, ap length e)

@@ -1,6 +1,6 @@
 -- What the words of an act open with: a head that has all its fields, but for a payload, which follows.
 -- The shapes of heads stand in the specs of crate head, for any table; here is which of them the words of an act have.
-use Rattle.std.specs.Prelude.{◌≡◌, ℕ, ◌%◌, List, [], ◌∷◌, ◌++◌, length, Some, Option}
+use Rattle.std.specs.Prelude.{◌≡◌, ℕ, ◌%◌, ◌≤◌, List, [], ◌∷◌, ◌++◌, length, Some, Option}
 use Rattle.grammar.specs.Grammar.{Grammar, Item}
 use Rattle.head.specs.declared.number.Head.{Head}
 use Rattle.head.specs.Heads.{Begins}
@@ -44,7 +44,8 @@ pub record Stated (a : Act) (r : Option Head) : Type 0 where
   pub split : signed_values a ≡ fields ++ loaded a
   pub begins : Begins signed fields (room a) r
   pub whole : (h : Head) → r ≡ Some h → h.width % 8 ≡ 0
+  pub short : (h : Head) → r ≡ Some h → length (load a) ≤ 48
 
 -- A head and then a payload as words: those of any act that the head states and whose load the payload is.
-abbrev pub PutTogether : Head → List ℕ → Option Words → Type 0
-PutTogether h p r = (a : Act) → Stated a (Some h) → load a ≡ p → Spelt a r
+abbrev pub PutTogether : Head → List ℕ → Words → Type 0
+PutTogether h p w = (a : Act) → Stated a (Some h) → load a ≡ p → Spelt a (Some w)

@@ -24,7 +24,7 @@ impl<'a> Statement<'a> {
     pub fn words(&self) -> Option<Words>
         ensures { Spelt (said self.now) result }
     {
-        spelt(self.head()?, self.payload())
+        Some(spelt(self.head()?, self.payload()))
     }
 
     // What the words open with.
@@ -57,15 +57,12 @@ impl<'a> Statement<'a> {
 }
 
 // A head and a payload as words.
-fn spelt(head: Head, payload: &[u8]) -> Option<Words>
-    requires { head.width % 8 ≡ 0 }
+fn spelt(head: Head, payload: &[u8]) -> Words
+    requires { (head.width % 8 ≡ 0) × (length payload.now ≤ 48) }
     ensures { PutTogether head payload.now result }
 {
-    if payload.len() > 48 {
-        return None;
-    }
     let first = head.bytes();
-    Some(joined(&first[..(head.width / 8) as usize], payload))
+    joined(&first[..(head.width / 8) as usize], payload)
 }
 
 // Two parts as words, one behind the other.
