@@ -1,16 +1,13 @@
 -- Fields side by side in one number: its bits are those of the fields, one after another.
 -- Only the low bits of a value count, so that no value has to be ruled out before it is put beside the others.
-use Rattle.std.proofs.Common.{◌≡◌, ℕ, ◌+◌, ◌*◌, ◌/◌, ◌%◌, ◌^◌, ◌<◌, Bool, true, false, ◌&&◌, ltb, List, [], ◌∷◌, ◌++◌, sym, refl, ap, ◌∙◌, subst, add_comm, arith}
+use Rattle.std.proofs.Common.{◌≡◌, ℕ, ◌+◌, ◌*◌, ◌/◌, ◌%◌, ◌^◌, ◌<◌, ◌-◌, List, [], ◌∷◌, ◌++◌, take, sym, ap, ◌∙◌, subst, add_comm, arith, take_at}
 use Rattle.std.proofs.lemmas.List.{append-nil}
 use Rattle.std.proofs.lemmas.Nat.{shr_high, mod_low, mod_below, pow-add, pow_pos, mul-add-lt, shl-shr}
-use Rattle.std.proofs.lemmas.Bool.{both_ways, ltb-true, lt-ltb}
 use Rattle.grammar.specs.Bits.{bits_of, bits}
-use Rattle.grammar.specs.Grammar.{Grammar, Item, After, spell}
-use Rattle.grammar.proofs.Bits.{parts, low}
-use Rattle.grammar.proofs.Cuts.{spell_append}
-use Rattle.grammar.proofs.Held.{held, onward, rest_after, front_after}
+use Rattle.grammar.specs.Grammar.{Item, spell}
+use Rattle.grammar.proofs.Bits.{parts, low, bits_take, length_bits_of}
 use Rattle.head.specs.declared.number.Head.{Head}
-use Rattle.head.specs.Heads.{Goes, Holds}
+use Rattle.head.specs.Heads.{BytesOf}
 
 pub beside : (a b x y : ℕ) → bits_of (a + b) (x * 2 ^ b + y % 2 ^ b) ≡ bits_of a x ++ bits_of b y
 beside a b x y =
@@ -24,24 +21,6 @@ beside_below a w x v h =
 pub spell_num : (w v : ℕ) → spell (Item.num w v ∷ []) ≡ bits_of w v
 unfolding spell
 spell_num w v = append-nil (bits_of w v)
-
-clash : {A : Type 0} (b : Bool) → b ≡ true → b ≡ false → A
-clash b p q = absurd (both_ways b q p)
-
--- One field on, allowed or not.
-pub goes_on : (g : Grammar) (is : List Item) (a ok_v fits : Bool) (w v : ℕ) (ok : ℕ → Bool) (k : ℕ → Grammar) → ok v ≡ ok_v → ltb v (2 ^ w) ≡ fits → Goes a g is (Grammar.field w ok k) → Goes ((a && ok_v) && fits) g (is ++ Item.num w v ∷ []) (k v)
-goes_on g is true true true w v ok k o b p = onward p (After.then_num (ltb-true v (2 ^ w) b) o After.start)
-goes_on g is true true false w v ok k o b p = λ any q. clash (ltb v (2 ^ w)) (lt-ltb v (2 ^ w) (held (rest_after (Item.num w v ∷ []) p q)).1) b
-goes_on g is true false fits w v ok k o b p = λ any q. clash (ok v) (held (rest_after (Item.num w v ∷ []) p q)).2 o
-goes_on g is false ok_v fits w v ok k o b p = λ any q. let r = front_after g is (Item.num w v ∷ []) any q in p r.0 r.1
-
--- A head with one more field.
-pub joined : (a b : Head) (w v : ℕ) (t : Bool) → b.number ≡ a.number * 2 ^ w + v % 2 ^ w → b.width ≡ a.width + w → b.allowed ≡ ((a.allowed && t) && ltb v (2 ^ w))
-    → (g : Grammar) (is : List Item) (ok : ℕ → Bool) (k : ℕ → Grammar) → ok v ≡ t → Holds g a is (Grammar.field w ok k) → Holds g b (is ++ Item.num w v ∷ []) (k v)
-joined a b w v t n d e g is ok k o p = record {
-  form = (λ i. bits_of (d i) (n i)) ∙ beside a.width w a.number v ∙ (λ i. p.form i ++ sym (spell_num w v) i) ∙ sym (spell_append is (Item.num w v ∷ []));
-  goes = subst (λ x. Goes x g (is ++ Item.num w v ∷ []) (k v)) (sym e) (goes_on g is a.allowed t (ltb v (2 ^ w)) w v ok k o refl p.goes);
-}
 
 -- A number's four bytes are its 32 bits.
 one_byte : (y : ℕ) → bits_of 8 (y % 256) ≡ bits_of 8 y
@@ -61,3 +40,10 @@ moved_up n w z =
     ends : (n z : ℕ) → (n * 2 ^ z) % 2 ^ z ≡ 0 % 2 ^ z
     ends n z = let e : n * 2 ^ z ≡ n * 2 ^ z + 0 = omega arith in let o : ◌≡◌ {A = ℕ} 0 (0 * 2 ^ z + 0) = omega arith in
         ap (λ m. m % 2 ^ z) e ∙ mod_low n z 0 (pow_pos z) ∙ sym (ap (λ m. m % 2 ^ z) o ∙ mod_low 0 z 0 (pow_pos z))
+
+-- The first bytes of a head's four are its fields, if it has whole bytes.
+pub first_bits : (h : Head) (bs : List ℕ) → h.width % 8 ≡ 0 → BytesOf h bs → bits (take (h.width / 8) bs) ≡ bits_of h.width h.number
+first_bits h bs m b =
+    let w : 8 * (h.width / 8) ≡ h.width = omega arith in
+    bits_take (h.width / 8) bs ∙ ap (λ n. take n (bits bs)) w ∙ ap (take h.width) b.form
+    ∙ take_at (bits_of h.width h.number) (bits_of (32 - h.width) 0) h.width (length_bits_of h.width h.number)

@@ -1,3 +1,4 @@
--- Lemmas of heads: fields side by side in one number, and the number in four bytes.
--- One file for both, since each is said of bits.
+-- Lemmas of heads: fields side by side in one number, the number in four bytes, and one field more of what a grammar allows.
+-- Joins is said of bits alone, Steps of grammars and tables.
 pub mod Joins
+pub mod Steps

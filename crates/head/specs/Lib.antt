@@ -1,3 +1,4 @@
 -- The words of heads.
--- One file: what a head holds, what one more field does to it, and the bytes it has.
+-- Heads: what a head holds, what one more field does to it, and the bytes it has. Shapes: what kinds open with, in any table.
 pub mod Heads
+pub mod Shapes

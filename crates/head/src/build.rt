@@ -1,6 +1,6 @@
 // Building a head field by field, and its bytes.
-// Every value is taken: of one that is too wide the low bits count, and the head is not allowed.
-ghost use Rattle.std.specs.Prelude.{◌+◌, ◌<◌};
+// Every value is taken; there is no head with one that its field may not have.
+ghost use Rattle.std.specs.Prelude.{true};
 ghost use Rattle.grammar.specs.Grammar.{from_to};
 ghost use Rattle.head.specs.Heads.{BytesOf, Empty, Four, Joined, Raised};
 
@@ -13,35 +13,33 @@ pub fn empty() -> Head
     Head {
         number: 0,
         width: 0,
-        allowed: true,
     }
 }
 
 impl Head {
-    // One more field of at most 8 bits, of a value that is allowed or not.
-    pub fn field(self, width: u8, value: usize, allowed: bool) -> Head
-        ensures { Joined self width value allowed result }
+    // One more field of at most 8 bits; none if it is too narrow for the value, or there is no room for it.
+    pub fn field(self, width: u8, value: usize) -> Option<Head>
+        ensures { Joined self width value true result }
     {
-        if width > 8 || self.width > 32 - width {
-            return Head {
-                number: self.number,
-                width: self.width,
-                allowed: false,
-            };
+        if width > 8 || self.width > 32 - width || value >= 1usize << width {
+            return None;
         }
-        let room = 1usize << width;
-        Head {
-            number: (self.number << width) + (value % room) as u32,
+        Some(Head {
+            number: (self.number << width) + value as u32,
             width: self.width + width,
-            allowed: self.allowed & allowed & (value < room),
-        }
+        })
     }
 
-    // One more field, whose value is allowed from `least` to `most`.
-    pub fn with(self, width: u8, value: usize, least: usize, most: usize) -> Head
+    // One more field, whose value may be `least` to `most`.
+    // Two numbers and no range: the library's also says whether it was gone through, which the contract would have to speak of.
+    pub fn with(self, width: u8, value: usize, least: usize, most: usize) -> Option<Head>
         ensures { Joined self width value (from_to least most value) result }
     {
-        self.field(width, value, least <= value && value <= most)
+        if least <= value && value <= most {
+            self.field(width, value)
+        } else {
+            None
+        }
     }
 
     // The fields in four bytes, and zeros after them.

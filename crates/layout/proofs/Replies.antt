@@ -4,7 +4,7 @@ use Rattle.std.proofs.Common.{◌≡◌, ℕ, zero, suc, ◌+◌, ◌-◌, ◌*�
 use Rattle.std.specs.List.{AllByRecursion}
 use Rattle.std.proofs.lemmas.List.{append_assoc, append-nil, length-take-le, length-take, length-drop}
 use Rattle.std.proofs.ByRecursion.{All-push, All-take, All-drop}
-use Rattle.std.proofs.lemmas.Bool.{and_parts, and_from, leb-true, cond_both, cases_eq, cases_Bool, eq-eqb, eqb-true}
+use Rattle.std.proofs.lemmas.Bool.{both_ways, and_parts, and_from, leb-true, cond_both, cases_eq, cases_Bool, eq-eqb, eqb-true}
 use Rattle.boards.specs.Boards.{member, size, place, tally, one}
 use Rattle.boards.proofs.Sets.{place_first, place_last, place_below, place_next}
 use Rattle.grammar.specs.Grammar.{Grammar, Item, After, from_to}
@@ -13,8 +13,10 @@ use Rattle.wire.specs.declared.message.Entries.TheVariants.{Heard, Stored}
 use Rattle.wire.specs.Fields.{entered, entries, proof}
 use Rattle.wire.specs.Messages.{Reply, listed, reply_at, replies_in, replies_of}
 use Rattle.wire.specs.Format.{reply_values, replies_values, set_values}
-use Rattle.layout.specs.Measures.{Bytes, Even, Evened, Short, Replied, reply_of, proper, most_change, Tagged, Going, Gathers, Gathered}
-use Rattle.layout.proofs.Rests.{un_num, un_raw, un_wide, join, cut, clash}
+use Rattle.head.specs.Shapes.{most_change}
+use Rattle.layout.specs.Measures.{Bytes, Even, Evened, Short, Replied, reply_of, proper, WholeTag, Going, Gathers, Ungathered}
+use Rattle.grammar.proofs.Held.{onward, rest_after}
+use Rattle.layout.proofs.Rests.{un_num, un_raw, un_wide}
 use Rattle.layout.proofs.Stored.{tag_fits}
 
 one_more : {X : Type 0} (b : Bool) (xs : List X) (x : X) (n : ℕ) → length xs ≡ n → length (xs ++ cond b (x ∷ []) []) ≡ n + one b
@@ -75,7 +77,7 @@ values_append (x ∷ xs) ys = ap (reply_values x) (values_append xs ys)
 most_small : (e : ℕ) → most_change e ≤ 7
 most_small e = cond_both (eqb e 0) 0 7 (λ n. n ≤ 7) (λ _. omega arith) (λ _. omega arith)
 
-one_reply : (e : Reply) → proper e.entry ≡ true → Tagged e → (k : ℕ → Grammar) → After (entered k) (reply_values e []) (k e.entry.earlier)
+one_reply : (e : Reply) → proper e.entry ≡ true → WholeTag e → (k : ℕ → Grammar) → After (entered k) (reply_values e []) (k e.entry.earlier)
 one_reply e p t k =
     let q = and_parts (from_to 0 8 e.entry.earlier) _ p in
     let r = leb-true e.entry.earlier 8 (and_parts (leb 0 e.entry.earlier) _ q.0).1 in
@@ -83,7 +85,7 @@ one_reply e p t k =
     After.then_num (omega arith) q.0 (After.then_num (omega arith) refl (After.then_num (omega (arith, c, most_small e.entry.earlier)) q.1 (After.then_raw t.0 t.1 After.start)))
 
 -- and what a reply that may stand tells
-pub reply_tells : {e : Reply} {is : List Item} {k : ℕ → Grammar} {l : Grammar} → After (entered k) (reply_values e is) l → (proper e.entry ≡ true) × Tagged e × After (k e.entry.earlier) is l
+pub reply_tells : {e : Reply} {is : List Item} {k : ℕ → Grammar} {l : Grammar} → After (entered k) (reply_values e is) l → (proper e.entry ≡ true) × WholeTag e × After (k e.entry.earlier) is l
 reply_tells a =
     let r = un_num a in
     let z = un_num r.2 in
@@ -95,7 +97,7 @@ pub begin : (s : ℕ) (es : Entries) → Going s es 0 0
 unfolding listed replies_values
 begin s es = record { goes = λ k. subst (λ n. After (entries (size s) 0 k) [] (entries n 0 k)) (omega (arith, place_first s)) After.start; tags = tt }
 
-pub next : {s : ℕ} {es : Entries} {b top : ℕ} → Going s es b top → member s b ≡ true → proper (reply_of s es b).entry ≡ true → Tagged (reply_of s es b) → Going s es (b + 1) (max top (reply_of s es b).entry.earlier)
+pub next : {s : ℕ} {es : Entries} {b top : ℕ} → Going s es b top → member s b ≡ true → proper (reply_of s es b).entry ≡ true → WholeTag (reply_of s es b) → Going s es (b + 1) (max top (reply_of s es b).entry.earlier)
 unfolding entries replies_values
 next {s} {es} {b} {top} g m p t =
     let e = reply_of s es b in
@@ -106,8 +108,8 @@ next {s} {es} {b} {top} g m p t =
       goes = λ k.
           subst (λ l. After (entries (size s) 0 k) (replies_values l) (entries (size s - place s (b + 1)) (max top e.entry.earlier) k)) more
           (subst (λ l. After (entries (size s) 0 k) l (entries (size s - place s (b + 1)) (max top e.entry.earlier) k)) (sym (values_append is (e ∷ [])))
-          (join (subst (λ n. After (entries (size s) 0 k) (replies_values is) (entries n top k)) left (g.goes k)) (one_reply e p t _)));
-      tags = subst (AllByRecursion Tagged) more (All-push Tagged is e g.tags t);
+          (onward (subst (λ n. After (entries (size s) 0 k) (replies_values is) (entries n top k)) left (g.goes k)) (one_reply e p t _)));
+      tags = subst (AllByRecursion WholeTag) more (All-push WholeTag is e g.tags t);
     }
 
 pub skip : {s : ℕ} {es : Entries} {b top : ℕ} → Going s es b top → member s b ≡ false → Going s es (b + 1) top
@@ -117,12 +119,12 @@ skip {s} {es} {b} {top} g m =
     record {
       goes = λ k. let P : List Reply → ℕ → Type 0 = λ l n. After (entries (size s) 0 k) (replies_values l) (entries (size s - n) top k) in
           subst (λ n. P (listed (member s) (reply_of s es) (b + 1)) n) here (subst (λ l. P l (place s b)) same (g.goes k));
-      tags = subst (AllByRecursion Tagged) same g.tags;
+      tags = subst (AllByRecursion WholeTag) same g.tags;
     }
 
 pub evens : (s : ℕ) (es : Entries) (r : Bool) → Evened s es r → r ≡ true → Even s es
 evens s (Heard xs) r v e = eqb-true _ _ (sym v.0 ∙ e)
-evens s (Stored es ts) r v e = tt
+evens s (Stored es ts) r v e = refl
 
 there : (s : ℕ) (es : Entries) (b : ℕ) → Even s es → member s b ≡ true → Short s es b → ⊥
 there s (Heard xs) b e m h = omega (arith, e, h, place_below s b m)
@@ -137,7 +139,7 @@ tag_bytes_fit : (s : ℕ) (es : Entries) (b : ℕ) (r : Bool) → Evened s es r 
 tag_bytes_fit s (Heard xs) b r v = All-take _ 8 _ (All-drop _ (9 * place s b + 1) xs.now v.1)
 tag_bytes_fit s (Stored es ts) b r v = tag_fits (get_or ts.now b 0)
 
-pub tag_of_even : (s : ℕ) (es : Entries) (b : ℕ) (r : Bool) → Evened s es r → r ≡ true → member s b ≡ true → Tagged (reply_of s es b)
+pub tag_of_even : (s : ℕ) (es : Entries) (b : ℕ) (r : Bool) → Evened s es r → r ≡ true → member s b ≡ true → WholeTag (reply_of s es b)
 tag_of_even s es b r v e m = (tag_long s es b (evens s es r v e) m, tag_bytes_fit s es b r v)
 
 -- what holds of each board's is so of all that are listed
@@ -160,12 +162,11 @@ finish {s} {es} {top} h g =
     record {
       goes = λ k. let P : List Reply → ℕ → Type 0 = λ l n. After (entries (size s) 0 k) (replies_values l) (entries n top k) in
           subst (λ n. P (replies_of s es) n) none (subst (λ l. P l (size s - place s 8)) all (g.goes k));
-      tags = subst (AllByRecursion Tagged) all g.tags;
-      even = h;
+      tags = subst (AllByRecursion WholeTag) all g.tags;
     }
 
 -- an entry that is not allowed
-pub improper : {s : ℕ} {es : Entries} {b top : ℕ} → Even s es → Going s es b top → b < 8 → member s b ≡ true → proper (reply_of s es b).entry ≡ false → Gathered s es None
+pub improper : {s : ℕ} {es : Entries} {b top : ℕ} → Even s es → Going s es b top → b < 8 → member s b ≡ true → proper (reply_of s es b).entry ≡ false → Ungathered s es
 unfolding entries replies_values
 improper {s} {es} {b} {top} h g l m e = λ p a after.
     let is = listed (member s) (reply_of s es) b in
@@ -176,11 +177,11 @@ improper {s} {es} {b} {top} h g l m e = λ p a after.
     let k : ℕ → Grammar = λ t. proof t Grammar.done in
     let left : size s - place s b ≡ suc (size s - place s b - 1) = omega (arith, place_below s b m) in
     let here = subst (λ n. After (entries (size s) 0 k) (replies_values is) (entries n top k)) left (g.goes k) in
-    let rest = cut (replies_values js ++ set_values p a) here (subst (λ x. After (entries (size s) 0 k) x Grammar.done) all after) in
-    clash (reply_tells rest).0 e
+    let rest = rest_after (replies_values js ++ set_values p a) here (subst (λ x. After (entries (size s) 0 k) x Grammar.done) all after) in
+    absurd (both_ways _ e (reply_tells rest).0)
 
 -- replies before a proof are as many as there are boards, each with its tag
-pub counted : (n top : ℕ) (es : List Reply) (p : ℕ) (a : List ℕ) {l : Grammar} → After (entries n top (λ t. proof t Grammar.done)) (replies_values es ++ set_values p a) l → (length es ≡ n) × AllByRecursion Tagged es × (length a ≡ 8 * size p)
+pub counted : (n top : ℕ) (es : List Reply) (p : ℕ) (a : List ℕ) {l : Grammar} → After (entries n top (λ t. proof t Grammar.done)) (replies_values es ++ set_values p a) l → (length es ≡ n) × AllByRecursion WholeTag es × (length a ≡ 8 * size p)
 unfolding entries replies_values
 counted zero top [] p a x = (refl, tt, (un_raw (un_num x).2).0)
 counted zero top (e ∷ es) p a x = absurd (omega (arith, un_wide x))
@@ -195,20 +196,20 @@ unfolding replies_in
 in_long zero xs = refl
 in_long (suc n) xs = length-append (replies_in n xs) _ ∙ omega (arith, in_long n xs)
 
-last_whole : (n : ℕ) (xs : List ℕ) → AllByRecursion Tagged (replies_in n xs) → 9 * n ≤ length xs
+last_whole : (n : ℕ) (xs : List ℕ) → AllByRecursion WholeTag (replies_in n xs) → 9 * n ≤ length xs
 unfolding replies_in
 last_whole zero xs t = omega arith
 last_whole (suc n) xs t =
-    let r = all_last Tagged (replies_in n xs) (reply_at xs (9 * n)) t in
+    let r = all_last WholeTag (replies_in n xs) (reply_at xs (9 * n)) t in
     omega (arith, length-take 8 (drop (9 * n + 1) xs), length-drop (9 * n + 1) xs, r.0)
 
 -- heard entries that are not nine bytes for each board
-pub uneven : (s : ℕ) (es : Entries) (r : Bool) → Evened s es r → r ≡ false → Gathered s es None
+pub uneven : (s : ℕ) (es : Entries) (r : Bool) → Evened s es r → r ≡ false → Ungathered s es
 uneven s (Heard xs) r v e = λ p a after.
     let ys = xs.now in
     let n = (length ys + 8) / 9 in
     let c = counted (size s) 0 (replies_in n ys) p a after in
     let many : n ≡ size s = sym (in_long n ys) ∙ c.0 in
     let long = last_whole n ys c.1 in
-    clash (eq-eqb (length ys) (9 * size s) (omega arith)) (sym v.0 ∙ e)
-uneven s (Stored es ts) r v e = clash v e
+    absurd (both_ways _ (sym v.0 ∙ e) (eq-eqb (length ys) (9 * size s) (omega arith)))
+uneven s (Stored es ts) r v e = absurd (both_ways _ e v)

@@ -1,65 +1,59 @@
 -- A set and its tags at the end of a message.
 -- With them the fields are a message's, if tags and set are as the format wants; else no message's.
-use Rattle.std.proofs.Common.{◌≡◌, ℕ, ◌*◌, ◌<◌, ◌≤◌, Bool, true, false, eqb, List, [], ◌∷◌, ◌++◌, length, sym, ap, ◌∙◌, subst, ⊎_elim, arith, length-append}
-use Rattle.std.proofs.lemmas.List.{append_assoc}
+use Rattle.std.proofs.Common.{◌≡◌, ℕ, ◌*◌, ◌<◌, ◌≤◌, Bool, true, false, eqb, List, [], ◌∷◌, ◌++◌, length, None, Option, sym, ap, ◌∙◌, subst, arith, length-append}
 use Rattle.std.proofs.ByRecursion.{All-append}
-use Rattle.std.proofs.lemmas.Bool.{eq-eqb, cases_Bool}
-use Rattle.boards.specs.declared.Set.{Set}
+use Rattle.std.proofs.lemmas.Bool.{both_ways, eq-eqb}
 use Rattle.boards.specs.Boards.{size, only}
 use Rattle.boards.proofs.Members.{only_above}
 use Rattle.boards.proofs.Sets.{size_le, size_only, size_none}
 use Rattle.grammar.specs.Bits.{bits}
 use Rattle.grammar.specs.Grammar.{Grammar, Item, After, spell}
-use Rattle.wire.specs.declared.message.Tags.{Tags}
-use Rattle.wire.specs.Fields.{lone}
-use Rattle.wire.specs.Messages.{tags_of}
-use Rattle.wire.specs.Format.{message, set_values}
-use Rattle.layout.specs.declared.plan.Head.{Head}
-use Rattle.layout.specs.declared.plan.Middle.{Middle}
-use Rattle.layout.specs.Heads.{Goes}
-use Rattle.layout.specs.Measures.{Bytes}
-use Rattle.layout.specs.Layouts.{Fronts, Lays, head_bytes, middle_bytes}
-use Rattle.layout.proofs.Rests.{un_num, un_raw, join, cut, front, clash}
 use Rattle.grammar.proofs.Bits.{bits_append}
 use Rattle.grammar.proofs.Cuts.{spell_append}
+use Rattle.grammar.proofs.Held.{held, onward, rest_after}
+use Rattle.head.specs.Heads.{Barred}
+use Rattle.head.proofs.Steps.{barred_more}
+use Rattle.wire.specs.declared.message.Tagged.{Tagged}
+use Rattle.wire.specs.Fields.{lone}
+use Rattle.wire.specs.Messages.{tags_by}
+use Rattle.wire.specs.Format.{message, set_values}
 use Rattle.wire.proofs.Packed.{packed_is}
+use Rattle.layout.specs.declared.plan.Front.{Front}
+use Rattle.layout.specs.declared.plan.Layout.{Layout}
+use Rattle.layout.specs.Measures.{Bytes}
+use Rattle.layout.specs.Layouts.{Fronts, Laid, Lays, front_bytes, head_bytes, middle_bytes}
 use Rattle.layout.proofs.Packed.{byte, bytes, head_fit, head_long}
 
 -- a set and its tags, as bits
 sealing : (s : ℕ) (t : List ℕ) → bits (s ∷ t) ≡ spell (set_values s t)
 sealing s t = bits_append (s ∷ []) t ∙ (λ i. byte s i ++ bytes t i) ∙ sym (spell_append (Item.num 8 s ∷ []) (Item.raw t ∷ []))
 
-pub allowed : {h : Head} {m : Middle} {is : List Item} {g : Grammar} → Fronts h m is g → h.allowed ≡ true → After message is g
-allowed {is = is} {g = g} f e = subst (λ b. Goes b message is g) e f.goes
+-- Nothing may stand behind what may not, and so no message has a layout there.
+pub unlaid : {is : List Item} {r : Option Layout} (js : List Item) → r ≡ None → Barred message is → Laid (is ++ js) r
+unlaid {is} {r} js e b = subst (Laid (is ++ js)) (sym e) (barred_more js b Grammar.done)
 
--- nothing follows fields that are not allowed
-pub barred : {h : Head} {m : Middle} {is : List Item} {g : Grammar} → Fronts h m is g → h.allowed ≡ false → (js : List Item) {l : Grammar} → After message (is ++ js) l → ⊥
-barred {is = is} {g = g} f e js a =
-    let r = front is js a in
-    subst (λ b. Goes b message is g) e f.goes r.0 r.1
+pub unlaid_at : {is : List Item} {g : Grammar} {r : Option Layout} (js : List Item) → r ≡ None → After message is g → (After g js Grammar.done → ⊥) → Laid (is ++ js) r
+unlaid_at {is} {g} {r} js e a b = subst (Laid (is ++ js)) (sym e) (λ x. b (rest_after js a x))
 
-pub lays : (h : Head) (m : Middle) (s : Set) (t : Tags) (is : List Item) (ok : ℕ → Bool) (n : ℕ → ℕ) → Fronts h m is (Grammar.field 8 ok (λ x. Grammar.part (n x) (λ _. Grammar.done))) → h.allowed ≡ true → s.bits < 256 → ok s.bits ≡ true → n s.bits ≡ 8 * size s.bits → length (tags_of s.bits t) ≡ 8 * size s.bits → Bytes (tags_of s.bits t)
-    → Lays (is ++ set_values s.bits (tags_of s.bits t)) (record { head = h; middle = m; set = s; tags = t })
-lays h m s t is ok n f e low o k l b =
-    let ts = tags_of s.bits t in
-    let hs = head_bytes h in
-    let ms = middle_bytes m in
-    let form : bits (hs ++ (ms ++ (s.bits ∷ ts))) ≡ spell (is ++ set_values s.bits ts) =
-    ap bits (sym (append_assoc hs ms (s.bits ∷ ts))) ∙ bits_append (hs ++ ms) (s.bits ∷ ts) ∙ (λ i. f.form i ++ sealing s.bits ts i) ∙ sym (spell_append is (set_values s.bits ts)) in
-    let fit : Bytes (hs ++ (ms ++ (s.bits ∷ ts))) = All-append _ hs (ms ++ (s.bits ∷ ts)) (head_fit h) (All-append _ ms (s.bits ∷ ts) f.fit (low, b)) in
+pub lays : (f : Front) (q : Tagged) (is : List Item) (ok : ℕ → Bool) (n : ℕ → ℕ) → Fronts f is (Grammar.field 8 ok (λ x. Grammar.part (n x) (λ _. Grammar.done))) → q.set.bits < 256 → ok q.set.bits ≡ true → n q.set.bits ≡ 8 * size q.set.bits → length (tags_by q) ≡ 8 * size q.set.bits → Bytes (tags_by q) → Lays (is ++ set_values q.set.bits (tags_by q)) (record { front = f; by = q })
+lays f q is ok n p low o k l b =
+    let s = q.set in
+    let ts = tags_by q in
+    let fs = front_bytes f in
+    let ms = middle_bytes f.middle in
+    let form : bits (fs ++ (s.bits ∷ ts)) ≡ spell (is ++ set_values s.bits ts) =
+    bits_append fs (s.bits ∷ ts) ∙ (λ i. p.form i ++ sealing s.bits ts i) ∙ sym (spell_append is (set_values s.bits ts)) in
+    let fit : Bytes (fs ++ (s.bits ∷ ts)) = All-append _ fs (s.bits ∷ ts) (All-append _ (head_bytes f.head) ms (head_fit f.head) p.fit) (low, b) in
     record {
-      allowed = join (allowed f e) (After.then_num low o (After.then_raw (l ∙ sym k) b After.start));
+      allowed = onward p.goes (After.then_num low o (After.then_raw (l ∙ sym k) b After.start));
       form = packed_is _ _ fit form;
-      whole = f.whole;
-      short = simp length-append (omega (arith, head_long h, f.whole.most, f.short e, l, size_le s.bits));
-      even = f.even e;
+      whole = p.whole;
+      short = simp length-append (omega (arith, head_long f.head, f.head.narrow, p.short, l, size_le s.bits));
     }
 
 -- tags that do not fit the set
-pub misfit : (s : ℕ) (ts : List ℕ) (is : List Item) (ok : ℕ → Bool) (n : ℕ → ℕ) {l : Grammar} → After message is (Grammar.field 8 ok (λ x. Grammar.part (n x) (λ _. Grammar.done))) → n s ≡ 8 * size s → eqb (length ts) (8 * size s) ≡ false → After message (is ++ set_values s ts) l → ⊥
-misfit s ts is ok n p k e a =
-    let r = un_raw (un_num (cut (set_values s ts) p a)).2 in
-    clash (eq-eqb _ _ (r.0 ∙ k)) e
+pub misfit : (s : ℕ) (ts : List ℕ) (ok : ℕ → Bool) (n : ℕ → ℕ) → n s ≡ 8 * size s → eqb (length ts) (8 * size s) ≡ false → After (Grammar.field 8 ok (λ x. Grammar.part (n x) (λ _. Grammar.done))) (set_values s ts) Grammar.done → ⊥
+misfit s ts ok n k e a = absurd (both_ways _ e (eq-eqb _ _ ((held a).3.0 ∙ k)))
 
 -- a set of one board is one that there is
 pub lone_below : (b : ℕ) → b < 8 → lone (only b) ≡ true
@@ -69,7 +63,3 @@ lone_below b h = eq-eqb _ _ (size_only b h)
 pub lone_above : (b : ℕ) → 8 ≤ b → lone (only b) ≡ false
 unfolding lone
 lone_above b h = ap (λ s. eqb (size s) 1) (only_above b h) ∙ ap (λ n. eqb n 1) size_none
-
--- a set that may not stand there
-pub refused : {h : Head} {m : Middle} {is : List Item} {ok : ℕ → Bool} {k : ℕ → Grammar} → Fronts h m is (Grammar.field 8 ok k) → (s : ℕ) (ts : List ℕ) → ok s ≡ false → After message (is ++ set_values s ts) Grammar.done → ⊥
-refused {h} f s ts o a = ⊎_elim (λ p. clash (un_num (cut (set_values s ts) (allowed f p) a)).1 o) (λ p. barred f p _ a) (cases_Bool h.allowed)

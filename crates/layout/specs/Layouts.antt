@@ -1,22 +1,26 @@
 -- The bytes of a layout, and when it is the layout of a message.
 -- Fields of a message are items in the order in which they are written; their bytes are `packed`.
-use Rattle.std.specs.Prelude.{◌≡◌, ℕ, ◌+◌, ◌*◌, ◌/◌, ◌%◌, ◌^◌, ◌<◌, ◌≤◌, Bool, true, List, [], ◌∷◌, ◌++◌, length, Some, None, Option}
-use Rattle.boards.specs.declared.Set.{Set}
+use Rattle.std.specs.Prelude.{◌≡◌, ℕ, ◌+◌, ◌*◌, ◌/◌, ◌%◌, ◌<◌, ◌≤◌, Bool, true, false, List, [], ◌∷◌, ◌++◌, length, Some, None, Option}
+use Rattle.std.specs.Borrow.{Bor}
 use Rattle.boards.specs.Boards.{size, only}
 use Rattle.grammar.specs.Bits.{bits, bits_of, bytes_of}
-use Rattle.grammar.specs.Grammar.{Grammar, Item, After, spell}
+use Rattle.grammar.specs.Grammar.{Grammar, Item, After, from_to, spell}
+use Rattle.head.specs.declared.number.Head.{Head}
+use Rattle.head.specs.Heads.{Barred, Holds}
+use Rattle.wire.specs.declared.message.Content.{Content}
 use Rattle.wire.specs.declared.message.Entry.{Entry}
 use Rattle.wire.specs.declared.message.Tags.{Tags}
-use Rattle.wire.specs.Fields.{lone_tag, proof}
-use Rattle.wire.specs.declared.message.Entries.{Entries}
-use Rattle.wire.specs.Messages.{Msg, Reply, tags_of, replies_of}
-use Rattle.wire.specs.Format.{message, packed, set_values, values}
-use Rattle.layout.specs.declared.plan.Head.{Head}
+use Rattle.wire.specs.declared.message.Tagged.{Tagged}
+use Rattle.wire.specs.declared.message.Replies.{Replies as RepliesOf}
+use Rattle.wire.specs.Fields.{carried, entered, entries, lone, proof}
+use Rattle.wire.specs.Messages.{Msg, Reply, tags_of, tags_by, replies_by}
+use Rattle.wire.specs.Format.{message, body, opening, content_values, packed, reply_values, replies_values, set_values, values}
+use Rattle.layout.specs.declared.plan.Front.{Front}
 use Rattle.layout.specs.declared.plan.Layout.{Layout}
 use Rattle.layout.specs.declared.plan.Middle.{Middle}
 use Rattle.layout.specs.declared.plan.Middle.TheVariants.{Nothing, Payload, Tag, Replies}
-use Rattle.layout.specs.Heads.{Goes}
-use Rattle.layout.specs.Measures.{Bytes, Even}
+use Rattle.layout.specs.declared.plan.Gathered.{Gathered}
+use Rattle.layout.specs.Measures.{Bytes, Gathers, Ungathered}
 
 -- The bytes of a head: its bits, eight a byte.
 abbrev pub head_bytes : Head → List ℕ
@@ -35,71 +39,86 @@ replies_bytes (e ∷ es) = entry_byte e.entry ∷ (e.tag ++ replies_bytes es)
 abbrev pub middle_bytes : Middle → List ℕ
 middle_bytes Nothing = []
 middle_bytes (Payload p) = p.now
-middle_bytes (Tag s t) = tags_of s.bits t
-middle_bytes (Replies s es) = replies_bytes (replies_of s.bits es)
+middle_bytes (Tag q) = tags_by q
+middle_bytes (Replies q) = replies_bytes (replies_by q.replies)
+
+-- The bytes of what stands before the last set.
+abbrev pub front_bytes : Front → List ℕ
+front_bytes f = head_bytes f.head ++ middle_bytes f.middle
 
 -- The bytes of a layout, part after part.
 abbrev pub layout_bytes : Layout → List ℕ
-layout_bytes l = head_bytes l.head ++ (middle_bytes l.middle ++ (l.set.bits ∷ tags_of l.set.bits l.tags))
+layout_bytes l = front_bytes l.front ++ (l.by.set.bits ∷ tags_by l.by)
 
--- A head is one to four whole bytes, and has no bit above its width.
-pub record Whole (h : Head) : Type 0 where
-  pub eights : h.width % 8 ≡ 0
-  pub some : 8 ≤ h.width
-  pub most : h.width ≤ 32
-  pub below : h.number < 2 ^ h.width
-
--- Entries among what stands between fit their set.
-abbrev pub Sized : Middle → Type 0
-Sized Nothing = Unit {0}
-Sized (Payload p) = Unit {0}
-Sized (Tag s t) = Unit {0}
-Sized (Replies s es) = Even s.bits es
-
--- Head and middle are the bytes of these fields, and then a message goes on as g, unless one of them is not allowed.
-pub record Fronts (h : Head) (m : Middle) (is : List Item) (g : Grammar) : Type 0 where
-  pub form : bits (head_bytes h ++ middle_bytes m) ≡ spell is
-  pub whole : Whole h
-  pub fit : Bytes (middle_bytes m)
-  pub short : h.allowed ≡ true → length (middle_bytes m) ≤ 72
-  pub even : h.allowed ≡ true → Sized m
-  pub goes : Goes h.allowed message is g
+-- What stands before the last set is whole bytes, and they are those of these fields, after which a message may go on as g.
+pub record Fronts (f : Front) (is : List Item) (g : Grammar) : Type 0 where
+  pub form : bits (front_bytes f) ≡ spell is
+  pub whole : f.head.width % 8 ≡ 0
+  pub fit : Bytes (middle_bytes f.middle)
+  pub short : length (middle_bytes f.middle) ≤ 72
+  pub goes : After message is g
 
 -- The layout of the message with these fields.
 pub record Lays (is : List Item) (l : Layout) : Type 0 where
   pub allowed : After message is Grammar.done
   pub form : layout_bytes l ≡ packed is
-  pub whole : Whole l.head
+  pub whole : l.front.head.width % 8 ≡ 0
   pub short : length (layout_bytes l) ≤ 141
-  pub even : Sized l.middle
 
 -- Fields that the format allows have a layout, and no others.
 abbrev pub Laid : List Item → Option Layout → Type 0
 Laid is (Some l) = Lays is l
 Laid is None = After message is Grammar.done → ⊥
 
--- Head and middle before any set that the format allows there, with tags that are as many as it wants.
-abbrev pub Sealed : Head → Middle → Set → Tags → Option Layout → Type 0
-Sealed h m s t r =
-    (is : List Item) (ok : ℕ → Bool) (n : ℕ → ℕ) → let g = Grammar.field 8 ok (λ x. Grammar.part (n x) (λ _. Grammar.done)) in
-    Fronts h m is g → (s.bits < 256 → ok s.bits ≡ true) → (After message is g → n s.bits ≡ 8 * size s.bits) → Laid (is ++ set_values s.bits (tags_of s.bits t)) r
+-- Just this board and its tag; none for a number above 7.
+pub record Own (b : ℕ) (t : Tags) (r : Option Tagged) : Type 0 where
+  pub one : (q : Tagged) → r ≡ Some q → (b < 8) × (q.set.bits ≡ only b) × (q.tags ≡ t)
+  pub none : r ≡ None → 8 ≤ b
 
--- Head and middle before just one board and its tag.
-abbrev pub Alone : Head → Middle → ℕ → Tags → Option Layout → Type 0
-Alone h m b t r = (is : List Item) → Fronts h m is (lone_tag Grammar.done) → Laid (is ++ set_values (only b) (tags_of (only b) t)) r
+-- A front before any set that the format allows there, with tags that are as many as it wants.
+abbrev pub Sealed : Front → Tagged → Option Layout → Type 0
+Sealed f q r =
+    (is : List Item) (ok : ℕ → Bool) (n : ℕ → ℕ) → Fronts f is (Grammar.field 8 ok (λ x. Grammar.part (n x) (λ _. Grammar.done))) → (q.set.bits < 256 → ok q.set.bits ≡ true) → n q.set.bits ≡ 8 * size q.set.bits → Laid (is ++ set_values q.set.bits (tags_by q)) r
 
--- Head and middle before a proof for the highest earlier rank.
-abbrev pub Proven : Head → Middle → ℕ → Set → Tags → Option Layout → Type 0
-Proven h m top s t r = (is : List Item) → Fronts h m is (proof top Grammar.done) → Laid (is ++ set_values s.bits (tags_of s.bits t)) r
+-- A front before just one board and its tag, where the format allows that set exactly if there is such a board.
+abbrev pub Alone : Front → ℕ → Tags → Option Layout → Type 0
+Alone f b t r =
+    (is : List Item) (ok : ℕ → Bool) → Fronts f is (Grammar.field 8 ok (λ _. Grammar.part 8 (λ _. Grammar.done))) → (b < 8 → ok (only b) ≡ true) → (8 ≤ b → ok (only b) ≡ false) → Laid (is ++ set_values (only b) (tags_of (only b) t)) r
+
+-- A front before a proof for the highest earlier rank.
+abbrev pub Proven : Front → ℕ → Tagged → Option Layout → Type 0
+Proven f top q r = (is : List Item) → Fronts f is (proof top Grammar.done) → Laid (is ++ set_values q.set.bits (tags_by q)) r
 
 -- The layout of a message, or that it has no bytes.
 abbrev pub LaidOut : Msg → Option Layout → Type 0
 LaidOut m r = Laid (values m) r
 
--- The layout of a last.
-abbrev pub LaidLast : ℕ → ℕ → ℕ → Entry → Tags → Set → Tags → Option Layout → Type 0
-LaidLast v r s e t p a l = LaidOut (Msg.last v r s (record { entry = e; tag = tags_of (only s) t }) p.bits (tags_of p.bits a)) l
+-- A head alone stands before the set.
+abbrev pub Bare : Head → Front → Type 0
+Bare h f = f ≡ record { head = h; middle = Nothing }
 
--- The layout of a suggest-last.
-abbrev pub LaidSuggestLast : ℕ → ℕ → Set → Entries → Set → Tags → Option Layout → Type 0
-LaidSuggestLast v r s es p a l = LaidOut (Msg.suggest_last v r s.bits (replies_of s.bits es) p.bits (tags_of p.bits a)) l
+-- A head and a payload stand before the set; what the payload has are bytes.
+abbrev pub Behind : Head → Bor (List ℕ) → Front → Type 0
+Behind h p f = (f ≡ record { head = h; middle = Payload p }) × Bytes p.now
+
+-- All of a content, for a kind that the table has a content for; none if such a message may not open so.
+pub record Loaded (kind v : ℕ) (c : Content) (r : Option Front) : Type 0 where
+  pub fronts : (f : Front) → r ≡ Some f → from_to 1 13 kind ≡ true → (k : ℕ → Grammar) → body kind ≡ carried k → Fronts f (opening kind v (content_values c.sender c.number c.sort c.payload.now [])) (k c.sender)
+  pub none : r ≡ None → from_to 1 13 kind ≡ true → (k : ℕ → Grammar) → body kind ≡ carried k → Barred message (opening kind v (content_values c.sender c.number c.sort c.payload.now []))
+
+-- Replies with their highest earlier rank; none if they may not stand before a proof.
+pub record MayGather (q : RepliesOf) (r : Option Gathered) : Type 0 where
+  pub some : (x : Gathered) → r ≡ Some x → (x.replies ≡ q) × Gathers q.set.bits q.entries x.top
+  pub none : r ≡ None → Ungathered q.set.bits q.entries
+
+-- The layout of a last whose head so far has kind, view and rank, with the tag of its own board.
+abbrev pub LaidLast : Head → Entry → Tagged → Tagged → Option Layout → Type 0
+LaidLast h e q p l =
+    (v r : ℕ) → Holds message h (opening 9 v (Item.num 4 r ∷ [])) (Grammar.field 8 lone (λ _. entered (λ x. proof x Grammar.done))) → lone q.set.bits ≡ true
+    → Laid (opening 9 v (Item.num 4 r ∷ Item.num 8 q.set.bits ∷ reply_values (record { entry = e; tag = tags_by q }) (set_values p.set.bits (tags_by p)))) l
+
+-- The layout of a suggest-last whose head so far has kind, view and rank.
+abbrev pub LaidSuggestLast : Head → RepliesOf → Tagged → Option Layout → Type 0
+LaidSuggestLast h q p l =
+    (v r : ℕ) → Holds message h (opening 10 v (Item.num 4 r ∷ [])) (Grammar.field 8 (from_to 0 255) (λ s. entries (size s) 0 (λ top. proof top Grammar.done)))
+    → Laid (opening 10 v (Item.num 4 r ∷ Item.num 8 q.set.bits ∷ (replies_values (replies_by q) ++ set_values p.set.bits (tags_by p)))) l

@@ -1,5 +1,4 @@
 -- The words that the contracts of layouts use.
--- Heads: fields side by side. Measures: tags and entries against their set. Layouts: the bytes of a layout, and when it is a message's.
-pub mod Heads
+-- Measures: tags and entries against their set. Layouts: the bytes of a layout, and when it is a message's.
 pub mod Measures
 pub mod Layouts

@@ -1,60 +1,53 @@
 // The entries of a suggest-last, board by board: whether the format allows each, and the highest earlier rank.
 // Heard and stored entries are gone through alike: board b's reply is `reply_of` in specs/Measures.antt.
 ghost use Rattle.std.specs.Prelude.{◌≡◌};
-ghost use Rattle.layout.specs.Measures.{Evened, Gathered, Replied, proper, most_change};
+ghost use Rattle.layout.specs.Measures.{Evened, Replied, proper};
+ghost use Rattle.layout.specs.Layouts.{MayGather};
 
 use crate::measure::count;
-use boards::Set;
-use wire::message::{Entries, Entry, Tags};
+use crate::plan::Gathered;
+use head::shapes::most_change;
+use wire::message::{Entries, Entry, Replies, Tags};
 
-// The highest earlier rank, 0 for none; nothing if an entry is not allowed or there are not as many as boards.
-pub(crate) fn highest(set: Set, entries: Entries<'_>) -> Option<u8>
-    ensures { Gathered set.bits entries.entry result }
+// The replies with their highest earlier rank; none if an entry is not allowed or there are not as many as boards.
+pub(crate) fn gather<'a>(replies: Replies<'a>) -> Option<Gathered<'a>>
+    ensures { MayGather replies.entry result }
 {
-    if !even(set, entries) {
+    if !even(replies) {
         return None;
     }
     let mut top: u8 = 0;
     for board in 0..8 {
-        if let Some((entry, _)) = reply(set, entries, board) {
+        if let Some((entry, _)) = reply(replies, board) {
             if !allowed(entry) {
                 return None;
             }
             top = top.max(entry.earlier);
         }
     }
-    Some(top)
+    Some(Gathered { replies, top })
 }
 
 // Whether there are nine bytes for each board.
-fn even(set: Set, entries: Entries<'_>) -> bool
-    ensures { Evened set.bits entries.entry result }
+fn even(replies: Replies<'_>) -> bool
+    ensures { Evened replies.entry.set.bits replies.entry.entries result }
 {
-    match entries {
-        Entries::Heard(bytes) => count(bytes) == 9 * set.len() as usize,
+    match replies.entries {
+        Entries::Heard(bytes) => count(bytes) == 9 * replies.set.len() as usize,
         Entries::Stored { .. } => true,
     }
 }
 
 // A board's entry and tag, if it is of the set and its nine bytes are there.
-pub fn reply<'a>(set: Set, entries: Entries<'a>, board: u8) -> Option<(Entry, Tags<'a>)>
-    ensures { Replied set.bits entries.entry board result }
+pub fn reply<'a>(replies: Replies<'a>, board: u8) -> Option<(Entry, Tags<'a>)>
+    ensures { Replied replies.entry.set.bits replies.entry.entries board result }
 {
-    let rank = set.rank(board)?;
-    match entries {
+    let rank = replies.set.rank(board)?;
+    match replies.entries {
         Entries::Heard(bytes) => {
             let at = 9 * (rank as usize - 1);
-            if at + 9 > bytes.len() {
-                return None;
-            }
-            let b = bytes[at];
-            Some((
-                Entry {
-                    earlier: b / 16,
-                    change: b % 8,
-                },
-                Tags::Heard(&bytes[at + 1..at + 9]),
-            ))
+            let (entry, tag) = bytes.get(at..at + 9)?.split_first()?;
+            Some((Entry::from(*entry), Tags::Heard(tag)))
         }
         Entries::Stored { entries, tags } => Some((
             entries[board as usize],
@@ -68,11 +61,4 @@ fn allowed(e: Entry) -> bool
     ensures { result ≡ proper e }
 {
     e.earlier <= 8 && e.change <= most_change(e.earlier)
-}
-
-// The changes that an entry may have: none without an earlier rank.
-pub(crate) fn most_change(earlier: u8) -> u8
-    ensures { result ≡ most_change earlier }
-{
-    if earlier == 0 { 0 } else { 7 }
 }

@@ -1,17 +1,20 @@
 // The layout of a message, kind by kind, in the order of the format's table.
 // A value that no bytes spell, as view 0, a payload of 49 bytes or too few tags, has none.
+ghost use Rattle.wire.specs.Kinds.{kind_number};
 ghost use Rattle.wire.specs.Messages.{meaning};
-ghost use Rattle.layout.specs.Layouts.{LaidOut, LaidLast, LaidSuggestLast};
+ghost use Rattle.layout.specs.Layouts.{Bare, Behind, LaidOut, LaidLast, LaidSuggestLast, Loaded};
 
-use crate::gather::{highest, most_change};
-use crate::kinds::{carried, graded, noted, ranked};
+use crate::gather::gather;
 use crate::measure::fits;
-use crate::plan::{Head, Layout, Middle};
-use crate::seal::{alone, proven, sealed};
-use boards::Set;
-use wire::message::{Entries, Entry, Message, Tags};
+use crate::plan::{Front, Layout, Middle};
+use crate::seal::own;
+use head::number::Head;
+use head::shapes::{carried, entered, graded, noted, ranked};
+use wire::kind::Kind;
+use wire::message::{Content, Entry, Message, Replies, Tagged};
 
 // The layout of a message, if there are bytes that spell it.
+// An arm for each kind: two kinds of one shape in one arm would be no shorter, since each names its fields anyway.
 pub fn lay_out<'a>(m: &Message<'a>) -> Option<Layout<'a>>
     ensures { LaidOut (meaning m.now) result }
 {
@@ -21,53 +24,43 @@ pub fn lay_out<'a>(m: &Message<'a>) -> Option<Layout<'a>>
             change,
             speaker,
             tag,
-        } => alone(noted(1, view, change), Middle::Nothing, speaker, tag),
-        Message::Suggest {
-            view,
-            change,
-            set,
-            tags,
-        } => sealed(noted(2, view, change), Middle::Nothing, set, tags),
+        } => bare(noted(Kind::Notify, view, change)?).alone(speaker, tag),
+        Message::Suggest { view, change, by } => {
+            bare(noted(Kind::Suggest, view, change)?).sealed(by)
+        }
         Message::Ack {
             view,
             rank,
             change,
             speaker,
             tag,
-        } => alone(graded(3, view, rank, change), Middle::Nothing, speaker, tag),
+        } => bare(graded(Kind::Ack, view, rank, change)?).alone(speaker, tag),
         Message::Proposal {
             view,
             rank,
             change,
-            set,
-            tags,
-        } => sealed(graded(4, view, rank, change), Middle::Nothing, set, tags),
+            by,
+        } => bare(graded(Kind::Proposal, view, rank, change)?).sealed(by),
         Message::Ready {
             view,
             rank,
             change,
             speaker,
             tag,
-        } => alone(graded(5, view, rank, change), Middle::Nothing, speaker, tag),
+        } => bare(graded(Kind::Ready, view, rank, change)?).alone(speaker, tag),
         Message::Change {
             view,
             rank,
             change,
-            set,
-            tags,
-        } => sealed(graded(6, view, rank, change), Middle::Nothing, set, tags),
+            by,
+        } => bare(graded(Kind::Change, view, rank, change)?).sealed(by),
         Message::Deputy {
             view,
             rank,
             speaker,
             tag,
-        } => alone(ranked(7, view, rank), Middle::Nothing, speaker, tag),
-        Message::Query {
-            view,
-            rank,
-            set,
-            tags,
-        } => sealed(ranked(8, view, rank), Middle::Nothing, set, tags),
+        } => bare(ranked(Kind::Deputy, view, rank)?).alone(speaker, tag),
+        Message::Query { view, rank, by } => bare(ranked(Kind::Query, view, rank)?).sealed(by),
         Message::Last {
             view,
             rank,
@@ -75,96 +68,82 @@ pub fn lay_out<'a>(m: &Message<'a>) -> Option<Layout<'a>>
             entry,
             tag,
             proof,
-            acks,
-        } => last(view, rank, speaker, entry, tag, proof, acks),
+        } => last(
+            ranked(Kind::Last, view, rank)?,
+            entry,
+            own(speaker, tag)?,
+            proof,
+        ),
         Message::SuggestLast {
             view,
             rank,
-            set,
-            entries,
+            replies,
             proof,
-            acks,
-        } => suggest_last(view, rank, set, entries, proof, acks),
+        } => suggest_last(ranked(Kind::SuggestLast, view, rank)?, replies, proof),
         Message::Init { view, content, tag } => {
-            sealed(
-                carried(11, view, content),
-                Middle::Payload(content.payload),
-                Set::only(content.sender),
-                tag,
-            )
+            loaded(Kind::Init, view, content)?.alone(content.sender, tag)
         }
         Message::Echo {
             view,
             content,
             speaker,
             tag,
-        } => {
-            alone(
-                carried(12, view, content),
-                Middle::Payload(content.payload),
-                speaker,
-                tag,
-            )
-        }
-        Message::Commit {
-            view,
-            content,
-            set,
-            tags,
-        } => {
-            sealed(
-                carried(13, view, content),
-                Middle::Payload(content.payload),
-                set,
-                tags,
-            )
-        }
+        } => loaded(Kind::Echo, view, content)?.alone(speaker, tag),
+        Message::Commit { view, content, by } => loaded(Kind::Commit, view, content)?.sealed(by),
+    }
+}
+
+// A head alone.
+fn bare<'a>(head: Head) -> Front<'a>
+    ensures { Bare head result }
+{
+    Front {
+        head,
+        middle: Middle::Nothing,
+    }
+}
+
+// A content, with its payload behind the head.
+fn loaded<'a>(kind: Kind, view: u8, content: Content<'a>) -> Option<Front<'a>>
+    ensures { Loaded (kind_number kind) view content.entry result }
+{
+    Some(behind(carried(kind, view, content)?, content.payload))
+}
+
+// A head and a payload.
+fn behind<'a>(head: Head, payload: &'a [u8]) -> Front<'a>
+    ensures { Behind head payload.entry result }
+{
+    Front {
+        head,
+        middle: Middle::Payload(payload),
     }
 }
 
 // The speaker's set and entry close the head; its tag stands before the proof.
-fn last<'a>(
-    view: u8,
-    rank: u8,
-    speaker: u8,
-    entry: Entry,
-    tag: Tags<'a>,
-    proof: Set,
-    acks: Tags<'a>,
-) -> Option<Layout<'a>>
-    ensures { LaidLast view rank speaker entry tag.entry proof acks.entry result }
+fn last<'a>(head: Head, entry: Entry, own: Tagged<'a>, proof: Tagged<'a>) -> Option<Layout<'a>>
+    ensures { LaidLast head entry own.entry proof.entry result }
 {
-    let set = Set::only(speaker);
-    let h = ranked(9, view, rank)
-        .field(8, set.bits as usize, speaker < 8)
-        .with(4, entry.earlier as usize, 0, 8)
-        .with(1, 0, 0, 0)
-        .with(
-            3,
-            entry.change as usize,
-            0,
-            most_change(entry.earlier) as usize,
-        );
-    let head = Head {
-        number: h.number,
-        width: h.width,
-        allowed: h.allowed & fits(set, tag),
+    let head = entered(head.field(8, own.set.bits as usize)?, entry)?;
+    if !fits(own) {
+        return None;
+    }
+    let front = Front {
+        head,
+        middle: Middle::Tag(own),
     };
-    proven(head, Middle::Tag { set, tag }, entry.earlier, proof, acks)
+    front.proven(entry.earlier, proof)
 }
 
 // The set closes the head; the replies of its boards stand before the proof.
-fn suggest_last<'a>(
-    view: u8,
-    rank: u8,
-    set: Set,
-    entries: Entries<'a>,
-    proof: Set,
-    acks: Tags<'a>,
-) -> Option<Layout<'a>>
-    ensures { LaidSuggestLast view rank set entries.entry proof acks.entry result }
+fn suggest_last<'a>(head: Head, replies: Replies<'a>, proof: Tagged<'a>) -> Option<Layout<'a>>
+    ensures { LaidSuggestLast head replies.entry proof.entry result }
 {
-    let top = highest(set, entries)?;
-    let head = ranked(10, view, rank).with(8, set.bits as usize, 0, 255);
-    proven(head, Middle::Replies { set, entries }, top, proof, acks)
+    let head = head.field(8, replies.set.bits as usize)?;
+    let gathered = gather(replies)?;
+    let front = Front {
+        head,
+        middle: Middle::Replies(gathered),
+    };
+    front.proven(gathered.top, proof)
 }

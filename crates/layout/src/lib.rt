@@ -3,8 +3,6 @@
 #![tactic(auto)]
 
 pub mod gather;
-pub mod head;
-pub mod kinds;
 pub mod lay;
 pub mod measure;
 pub mod plan;

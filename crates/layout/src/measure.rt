@@ -1,32 +1,24 @@
 // Whether tags are what the format wants beside a set: eight bytes for each of its boards.
 // Where they lie, heard, stored or fresh, makes no difference to the bytes: specs of crate wire, Messages.antt.
-ghost use Rattle.std.specs.Prelude.{◌≡◌, ◌<◌, length};
+ghost use Rattle.std.specs.Prelude.{◌≡◌, length};
 ghost use Rattle.layout.specs.Measures.{Bytes, Measured};
 
-use boards::Set;
-use wire::message::Tags;
+use wire::message::{Tagged, Tags};
 
-// How many bytes there are.
+// How many bytes there are; of a slice that is a parameter the proof knows that they are bytes.
 pub(crate) fn count(bytes: &[u8]) -> usize
     ensures { (result ≡ length bytes.now) × Bytes bytes.now }
-{
-    extent(bytes)
-}
-
-// The length alone; a call that takes the slice lets the proof above know that it holds bytes.
-fn extent(bytes: &[u8]) -> usize
-    ensures { result ≡ length bytes.now }
 {
     bytes.len()
 }
 
-// Whether the tags are eight bytes for each board of the set.
-pub(crate) fn fits(set: Set, tags: Tags<'_>) -> bool
-    ensures { Measured set tags.entry result }
+// Whether the tags are eight bytes for each board of their set.
+pub(crate) fn fits(by: Tagged<'_>) -> bool
+    ensures { Measured by.entry result }
 {
-    match tags {
-        Tags::Heard(bytes) => count(bytes) == 8 * set.len() as usize,
+    match by.tags {
+        Tags::Heard(bytes) => count(bytes) == 8 * by.set.len() as usize,
         Tags::Stored(_) => true,
-        Tags::Fresh(_) => set.len() == 1,
+        Tags::Fresh(_) => by.set.len() == 1,
     }
 }

@@ -1,14 +1,16 @@
 // The parts of a message in the order in which they are written.
-// A head's fields stand side by side in one number, the first on top. What bytes a layout has: specs/Layouts.antt.
-use boards::Set;
-use wire::message::{Entries, Tags};
+// What bytes a layout has: specs/Layouts.antt.
+ghost use Rattle.layout.specs.Measures.{Even};
 
-// The fields of a message up to its first whole part, and whether the format allows each of them.
+use head::number::Head;
+use wire::message::{Replies, Tagged};
+
+// Replies that may stand before a proof, with their highest earlier rank, 0 for none.
 #[derive(Clone, Copy)]
-pub struct Head {
-    pub number: u32,
-    pub width: u8,
-    pub allowed: bool,
+pub struct Gathered<'a> {
+    pub replies: Replies<'a>,
+    pub top: u8,
+    ghost even: { Even replies.set.bits replies.entries },
 }
 
 // What stands between the head and the last set: a payload, the tag of a last, or the entries of a suggest-last.
@@ -16,14 +18,19 @@ pub struct Head {
 pub enum Middle<'a> {
     Nothing,
     Payload(&'a [u8]),
-    Tag { set: Set, tag: Tags<'a> },
-    Replies { set: Set, entries: Entries<'a> },
+    Tag(Tagged<'a>),
+    Replies(Gathered<'a>),
+}
+
+// All before the last set.
+#[derive(Clone, Copy)]
+pub struct Front<'a> {
+    pub head: Head,
+    pub middle: Middle<'a>,
 }
 
 #[derive(Clone, Copy)]
 pub struct Layout<'a> {
-    pub head: Head,
-    pub middle: Middle<'a>,
-    pub set: Set,
-    pub tags: Tags<'a>,
+    pub front: Front<'a>,
+    pub by: Tagged<'a>,
 }

@@ -2,64 +2,49 @@
 // Three rules for the set: any, just the speaker, or a proof that goes with the highest earlier rank.
 ghost use Rattle.std.specs.Prelude.{◌≡◌, if◌then◌else◌, nat_eq};
 ghost use Rattle.grammar.specs.Grammar.{from_to};
-ghost use Rattle.layout.specs.Layouts.{Sealed, Alone, Proven};
+ghost use Rattle.layout.specs.Layouts.{Alone, Own, Proven, Sealed};
 
 use crate::measure::fits;
-use crate::plan::{Head, Layout, Middle};
+use crate::plan::{Front, Layout};
 use boards::Set;
-use wire::message::Tags;
+use wire::message::{Tagged, Tags};
 
-// Any set.
-pub(crate) fn sealed<'a>(
-    head: Head,
-    middle: Middle<'a>,
-    set: Set,
-    tags: Tags<'a>,
-) -> Option<Layout<'a>>
-    ensures { Sealed head middle.entry set tags.entry result }
+// Just the speaker, and its tag; none if there is no such board.
+pub(crate) fn own<'a>(speaker: u8, tag: Tags<'a>) -> Option<Tagged<'a>>
+    ensures { Own speaker tag.entry result }
 {
-    if fits(set, tags) & head.allowed {
-        Some(Layout {
-            head,
-            middle,
-            set,
-            tags,
-        })
-    } else {
-        None
+    if speaker >= 8 {
+        return None;
     }
+    Some(Tagged {
+        set: Set::only(speaker),
+        tags: tag,
+    })
 }
 
-// Just the speaker.
-pub(crate) fn alone<'a>(
-    head: Head,
-    middle: Middle<'a>,
-    speaker: u8,
-    tag: Tags<'a>,
-) -> Option<Layout<'a>>
-    ensures { Alone head middle.entry speaker tag.entry result }
-{
-    if speaker < 8 {
-        sealed(head, middle, Set::only(speaker), tag)
-    } else {
-        None
+impl<'a> Front<'a> {
+    // Any set.
+    pub(crate) fn sealed(self, by: Tagged<'a>) -> Option<Layout<'a>>
+        ensures { Sealed self.entry by.entry result }
+    {
+        fits(by).then_some(Layout { front: self, by })
     }
-}
 
-// A proof, which has boards exactly if there is an earlier rank.
-pub(crate) fn proven<'a>(
-    head: Head,
-    middle: Middle<'a>,
-    top: u8,
-    proof: Set,
-    acks: Tags<'a>,
-) -> Option<Layout<'a>>
-    ensures { Proven head middle.entry top proof acks.entry result }
-{
-    if called_for(top, proof) {
-        sealed(head, middle, proof, acks)
-    } else {
-        None
+    // Just the speaker.
+    pub(crate) fn alone(self, speaker: u8, tag: Tags<'a>) -> Option<Layout<'a>>
+        ensures { Alone self.entry speaker tag.entry result }
+    {
+        self.sealed(own(speaker, tag)?)
+    }
+
+    // A proof, which has boards exactly if there is an earlier rank.
+    pub(crate) fn proven(self, top: u8, proof: Tagged<'a>) -> Option<Layout<'a>>
+        ensures { Proven self.entry top proof.entry result }
+    {
+        if !called_for(top, proof.set) {
+            return None;
+        }
+        self.sealed(proof)
     }
 }
 
@@ -67,9 +52,5 @@ pub(crate) fn proven<'a>(
 fn called_for(top: u8, proof: Set) -> bool
     ensures { result ≡ from_to (if nat_eq top 0 then 0 else 1) (if nat_eq top 0 then 0 else 255) proof.bits }
 {
-    if top == 0 {
-        proof.bits == 0
-    } else {
-        proof.bits != 0
-    }
+    (proof.bits == 0) == (top == 0)
 }

@@ -2,7 +2,6 @@
 // Rules: docs/FRAMES.md, "Signed words". Acts and their words as plain data: specs of crate wire, Acts.antt.
 #![tactic(auto)]
 
-mod heads;
 pub mod spell;
 pub mod statement;
 pub mod text;

@@ -1,20 +1,21 @@
 // The words of a statement: a head of whole bytes, and in an init or an echo the payload.
 // They are put together in one array, each byte once.
-ghost use Rattle.std.specs.Prelude.{◌≡◌, ◌+◌, ◌%◌, ◌≤◌, length};
+ghost use Rattle.std.specs.Prelude.{◌≡◌, ◌+◌, ◌%◌, ◌≤◌, ◌++◌, length};
 ghost use Rattle.words.specs.Said.{said, text, Spelt};
-ghost use Rattle.words.specs.Openings.{load, Put, PutTogether, Stated};
+ghost use Rattle.words.specs.Openings.{load, PutTogether, Stated};
 
-use crate::heads::{ack, deputy, echo, init, last, notify, ready};
 use crate::statement::Statement;
 use crate::text::Words;
 use head::number::Head;
+use head::shapes::{carried, entered, graded, noted, ranked};
+use wire::kind::Kind;
 
 impl Words {
     // The words as bytes.
     pub fn as_slice(&self) -> &[u8]
         ensures { result.now ≡ text self.now }
     {
-        &self.bytes[0..self.len]
+        &self.bytes[..self.len]
     }
 }
 
@@ -23,21 +24,24 @@ impl<'a> Statement<'a> {
     pub fn words(&self) -> Option<Words>
         ensures { Spelt (said self.now) result }
     {
-        spelt(self.head(), self.payload())
+        Some(spelt(self.head()?, self.payload()))
     }
 
     // What the words open with.
-    fn head(&self) -> Head
+    fn head(&self) -> Option<Head>
         ensures { Stated (said self.now) result }
     {
         match *self {
-            Statement::Notify { view, change } => notify(view, change),
-            Statement::Ack { view, rank, change } => ack(view, rank, change),
-            Statement::Ready { view, rank, change } => ready(view, rank, change),
-            Statement::Deputy { view, rank } => deputy(view, rank),
-            Statement::Last { view, rank, entry } => last(view, rank, entry),
-            Statement::Init { view, content } => init(view, content),
-            Statement::Echo { view, content } => echo(view, content),
+            Statement::Notify { view, change } => noted(Kind::Notify, view, change),
+            Statement::Ack { view, rank, change } => graded(Kind::Ack, view, rank, change),
+            Statement::Ready { view, rank, change } => graded(Kind::Ready, view, rank, change),
+            Statement::Deputy { view, rank } => ranked(Kind::Deputy, view, rank),
+            Statement::Last { view, rank, entry } => entered(
+                ranked(Kind::Last, view, rank)?,
+                entry,
+            ),
+            Statement::Init { view, content } => carried(Kind::Init, view, content),
+            Statement::Echo { view, content } => carried(Kind::Echo, view, content),
         }
     }
 
@@ -46,34 +50,30 @@ impl<'a> Statement<'a> {
         ensures { load (said self.now) ≡ result.now }
     {
         match *self {
-            Statement::Init { content, .. } => content.payload,
-            Statement::Echo { content, .. } => content.payload,
+            Statement::Init { content, .. } | Statement::Echo { content, .. } => content.payload,
             _ => &[],
         }
     }
 }
 
-// Copies a part to its place, and answers the place after it.
-fn put(out: &mut [u8], at: usize, part: &[u8]) -> usize
-    requires { at + length part.now ≤ length out.old }
-    ensures { Put out.old at part.now result out.new }
-{
-    let end = at + part.len();
-    out[at..end].copy_from_slice(part);
-    end
-}
-
 // A head and a payload as words.
-fn spelt(head: Head, payload: &[u8]) -> Option<Words>
-    requires { head.width % 8 ≡ 0 }
+fn spelt(head: Head, payload: &[u8]) -> Words
+    requires { (head.width % 8 ≡ 0) × (length payload.now ≤ 48) }
     ensures { PutTogether head payload.now result }
 {
-    if !head.allowed || payload.len() > 48 {
-        return None;
-    }
     let first = head.bytes();
+    joined(&first[..(head.width / 8) as usize], payload)
+}
+
+// Two parts as words, one behind the other.
+fn joined(front: &[u8], back: &[u8]) -> Words
+    requires { length front.now + length back.now ≤ 52 }
+    ensures { text result ≡ front.now ++ back.now }
+{
+    let at = front.len();
+    let len = at + back.len();
     let mut bytes = [0; 52];
-    let at = put(&mut bytes, 0, &first[0..(head.width / 8) as usize]);
-    let len = put(&mut bytes, at, payload);
-    Some(Words { bytes, len })
+    bytes[..at].copy_from_slice(front);
+    bytes[at..len].copy_from_slice(back);
+    Words { bytes, len }
 }

@@ -1,8 +1,9 @@
 -- One part put after another, from a place on.
 -- Two puts are one put of both parts.
-use Rattle.std.proofs.Common.{◌≡◌, ℕ, ◌+◌, ◌≤◌, List, [], ◌++◌, length, take, drop, sym, ap, ◌∙◌, subst, add-zero, arith}
-use Rattle.std.proofs.lemmas.List.{append_assoc, take_at, drop_at, drop-drop, length-append, length-take-le, take-append-drop}
-use Rattle.writer.specs.Writes.{Put}
+use Rattle.std.proofs.Common.{◌≡◌, ℕ, ◌+◌, ◌≤◌, List, [], ◌++◌, length, take, drop, sym, refl, ap, ◌∙◌, subst, add-zero, arith}
+use Rattle.std.proofs.lemmas.List.{append_assoc, take_at, drop_at, drop-drop, length-append, length-drop, length-take-le, take-append-drop}
+use Rattle.writer.specs.Writes.{Put, Puts}
+use Rattle.writer.specs.declared.put.Cursor.{Cursor}
 
 pub none : (old : List ℕ) (n : ℕ) → Put old n [] n old
 none old n = record { place = sym (add-zero n); after = sym (ap (λ k. take n old ++ drop k old) (add-zero n) ∙ take-append-drop n old) }
@@ -24,6 +25,22 @@ more {old} {xs} {ys} {new} {newer} {n} {m} {r} h f p =
 pub same : {old xs ys new : List ℕ} {n r : ℕ} → xs ≡ ys → Put old n xs r new → Put old n ys r new
 same {old} {new = new} {n = n} {r = r} e p = subst (λ l. Put old n l r new) e p
 
--- the same place and bytes under other names
-pub reached : {old xs new newer : List ℕ} {n r s : ℕ} → s ≡ r → newer ≡ new → Put old n xs r new → Put old n xs s newer
-reached e f p = record { place = e ∙ p.place; after = f ∙ p.after }
+-- A part within the bytes leaves as many as there were.
+pub kept : {old xs new : List ℕ} {n r : ℕ} → n + length xs ≤ length old → Put old n xs r new → length new ≡ length old
+kept {old} {xs} {new} {n} {r} h p =
+    let front : length (take n old) ≡ n = length-take-le n old (omega arith) in
+    ap length p.after ∙ simp (length-append, length-drop) (omega arith)
+
+-- The same of cursors.
+pub none_at : (a : Cursor) → Puts a [] a
+none_at a = record { put = none a.out.now a.at; kept = refl }
+
+pub more_at : {a b d : Cursor} {xs ys : List ℕ} → a.at ≤ length a.out.now → Puts a xs b → Puts b ys d → Puts a (xs ++ ys) d
+more_at h p q = record { put = more h p.put q.put; kept = q.kept ∙ p.kept }
+
+pub same_at : {a b : Cursor} {xs ys : List ℕ} → xs ≡ ys → Puts a xs b → Puts a ys b
+same_at {a} {b} e p = subst (λ l. Puts a l b) e p
+
+-- A cursor under another name.
+pub reached : {a b d : Cursor} {xs : List ℕ} → d ≡ b → Puts a xs b → Puts a xs d
+reached {a} {xs = xs} e p = subst (Puts a xs) (sym e) p

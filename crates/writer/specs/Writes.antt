@@ -3,6 +3,7 @@
 use Rattle.std.specs.Prelude.{◌≡◌, ℕ, ◌+◌, ◌<◌, ◌≤◌, List, ◌++◌, length, take, drop, Ok, Err, Result}
 use Rattle.wire.specs.Messages.{Msg}
 use Rattle.wire.specs.Format.{Formed, form}
+use Rattle.writer.specs.declared.put.Cursor.{Cursor}
 use Rattle.writer.specs.declared.Unwritten.{Unwritten}
 use Rattle.writer.specs.declared.Unwritten.TheVariants.{NoMessage, Out}
 
@@ -10,6 +11,11 @@ use Rattle.writer.specs.declared.Unwritten.TheVariants.{NoMessage, Out}
 pub record Put (old : List ℕ) (n : ℕ) (part : List ℕ) (r : ℕ) (new : List ℕ) : Type 0 where
   pub place : r ≡ n + length part
   pub after : new ≡ take n old ++ (part ++ drop (n + length part) old)
+
+-- The same at the place that a cursor keeps, in the bytes that it keeps.
+pub record Puts (a : Cursor) (part : List ℕ) (b : Cursor) : Type 0 where
+  pub put : Put a.out.now a.at part b.at b.out.now
+  pub kept : b.out.ghost_name ≡ a.out.ghost_name
 
 -- The n bytes of a message stand first, and the bytes past them are as they were.
 pub record Wrote (m : Msg) (old : List ℕ) (n : ℕ) (new : List ℕ) : Type 0 where

@@ -15,7 +15,7 @@ use put::put_layout;
 use room::needed;
 
 // Why nothing is written: no bytes spell the value, or fewer bytes are offered than the message has.
-#[derive(Clone, Copy)]
+#[derive(Clone, Copy, PartialEq, Eq)]
 pub enum Unwritten {
     NoMessage,
     Out,
@@ -25,9 +25,7 @@ pub enum Unwritten {
 pub fn write(m: &Message<'_>, out: &mut [u8]) -> Result<usize, Unwritten>
     ensures { Writes (meaning m.now) out.old result out.new }
 {
-    let Some(layout) = lay_out(m) else {
-        return Err(Unwritten::NoMessage);
-    };
+    let layout = lay_out(m).ok_or(Unwritten::NoMessage)?;
     if out.len() < needed(&layout) {
         return Err(Unwritten::Out);
     }

@@ -1,122 +1,130 @@
 // The parts of a layout, each at its own place in the bytes offered, and each byte written once.
-// A tag goes straight to its place: the middle part of what is offered is lent on.
-ghost use Rattle.std.specs.Prelude.{◌≡◌, ◌+◌, ◌*◌, ◌/◌, ◌≤◌, ◌∷◌, length};
+// A cursor keeps the bytes and the place up to which they are written: each part begins where the one before it ends.
+ghost use Rattle.std.specs.Prelude.{◌≡◌, ◌+◌, ◌*◌, ◌%◌, ◌≤◌, ◌∷◌, length};
 ghost use Rattle.boards.specs.Boards.{size};
-ghost use Rattle.wire.specs.Messages.{tag_bytes, tags_of, stored_tags, replies_of};
-ghost use Rattle.layout.specs.Measures.{Even};
-ghost use Rattle.layout.specs.Layouts.{head_bytes, entry_byte, replies_bytes, middle_bytes, layout_bytes, Whole, Sized};
-ghost use Rattle.writer.specs.Writes.{Put};
+ghost use Rattle.wire.specs.Messages.{tag_bytes, tags_by, stored_tags, replies_by};
+ghost use Rattle.layout.specs.Layouts.{head_bytes, entry_byte, replies_bytes, middle_bytes, layout_bytes};
+ghost use Rattle.writer.specs.Writes.{Put, Puts};
 
 use boards::Set;
+use head::number::Head;
 use layout::gather::reply;
-use layout::plan::{Head, Layout, Middle};
-use wire::message::{Entries, Entry, Tags};
+use layout::plan::{Gathered, Layout, Middle};
+use wire::message::{Entry, Tagged, Tags};
+
+#[derive(Drop)]
+struct Cursor<'b> {
+    out: &'b mut [u8],
+    at: usize,
+}
 
 // All the parts, and how many bytes they are.
 pub(crate) fn put_layout(out: &mut [u8], layout: &Layout<'_>) -> usize
-    requires { (length (layout_bytes layout.now) ≤ length out.old) × ((Whole layout.now.head) × (Sized layout.now.middle)) }
+    requires { (length (layout_bytes layout.now) ≤ length out.old) × (layout.now.front.head.width % 8 ≡ 0) }
     ensures { Put out.old 0 (layout_bytes layout.now) result out.new }
 {
-    let n = put_head(out, layout.head);
-    let n = put_middle(out, n, layout.middle);
-    let n = put(out, n, &[layout.set.bits]);
-    put_tags(out, n, layout.set, layout.tags)
+    let mut cursor = Cursor { out, at: 0 };
+    cursor.put_parts(layout);
+    cursor.at
 }
 
-// Copies a part to its place, and answers the place after it.
-fn put(out: &mut [u8], at: usize, part: &[u8]) -> usize
-    requires { at + length part.now ≤ length out.old }
-    ensures { Put out.old at part.now result out.new }
-{
-    let end = at + part.len();
-    out[at..end].copy_from_slice(part);
-    end
-}
-
-// A head at the front.
-fn put_head(out: &mut [u8], head: Head) -> usize
-    requires { (Whole head) × (length (head_bytes head) ≤ length out.old) }
-    ensures { Put out.old 0 (head_bytes head) result out.new }
-{
-    let bytes = (head.number << (32 - head.width)).to_be_bytes();
-    put(out, 0, &bytes[0..(head.width / 8) as usize])
-}
-
-// What stands between the head and the last set.
-fn put_middle(out: &mut [u8], at: usize, middle: Middle<'_>) -> usize
-    requires { (at + length (middle_bytes middle) ≤ length out.old) × (Sized middle) }
-    ensures { Put out.old at (middle_bytes middle.entry) result out.new }
-{
-    match middle {
-        Middle::Nothing => at,
-        Middle::Payload(bytes) => put(out, at, bytes),
-        Middle::Tag { set, tag } => put_tags(out, at, set, tag),
-        Middle::Replies { set, entries } => put_replies(out, at, set, entries),
+impl<'b> Cursor<'b> {
+    fn put_parts(&mut self, layout: &Layout<'_>)
+        requires { (self.old.at + length (layout_bytes layout.now) ≤ length self.old.out.now) × (layout.now.front.head.width % 8 ≡ 0) }
+        ensures { Puts self.old (layout_bytes layout.now) self.new }
+    {
+        self.put_head(layout.front.head);
+        self.put_middle(layout.front.middle);
+        self.put(&[layout.by.set.bits]);
+        self.put_tags(layout.by);
     }
-}
 
-// The tags of a set, by rising board number.
-fn put_tags(out: &mut [u8], at: usize, set: Set, tags: Tags<'_>) -> usize
-    requires { at + length (tags_of set.bits tags) ≤ length out.old }
-    ensures { Put out.old at (tags_of set.bits tags.entry) result out.new }
-{
-    match tags {
-        Tags::Heard(bytes) => put(out, at, bytes),
-        Tags::Stored(row) => put_stored(out, at, set, row),
-        Tags::Fresh(tag) => put_tag(out, at, tag),
+    fn put(&mut self, part: &[u8])
+        requires { self.old.at + length part.now ≤ length self.old.out.now }
+        ensures { Puts self.old part.now self.new }
+    {
+        let end = self.at + part.len();
+        let out = &mut *self.out;
+        out[self.at..end].copy_from_slice(part);
+        self.at = end;
     }
-}
 
-// The tags of a set out of a row that has one for each board.
-fn put_stored(out: &mut [u8], at: usize, set: Set, row: &[u64; 8]) -> usize
-    requires { at + 8 * size set.bits ≤ length out.old }
-    ensures { Put out.old at (stored_tags set.bits row.now) result out.new }
-{
-    let mut n = at;
-    for board in 0..8 {
-        if set.has(board) {
-            n = put_tag(out, n, row[board as usize]);
+    fn put_head(&mut self, head: Head)
+        requires { (self.old.at + length (head_bytes head) ≤ length self.old.out.now) × (head.width % 8 ≡ 0) }
+        ensures { Puts self.old (head_bytes head) self.new }
+    {
+        let bytes = head.bytes();
+        self.put(&bytes[..(head.width / 8) as usize]);
+    }
+
+    // What stands between the head and the last set.
+    fn put_middle(&mut self, middle: Middle<'_>)
+        requires { self.old.at + length (middle_bytes middle) ≤ length self.old.out.now }
+        ensures { Puts self.old (middle_bytes middle.entry) self.new }
+    {
+        match middle {
+            Middle::Nothing => {}
+            Middle::Payload(bytes) => self.put(bytes),
+            Middle::Tag(by) => self.put_tags(by),
+            Middle::Replies(gathered) => self.put_replies(gathered),
         }
     }
-    n
-}
 
-// A tag at its place, and the place after it.
-fn put_tag(out: &mut [u8], at: usize, tag: u64) -> usize
-    requires { at + 8 ≤ length out.old }
-    ensures { Put out.old at (tag_bytes tag) result out.new }
-{
-    write_tag(&mut out[at..at + 8], tag);
-    at + 8
-}
-
-// A tag over the whole of its place, the top byte first.
-fn write_tag(place: &mut [u8], tag: u64)
-    requires { length place.old ≡ 8 }
-    ensures { place.new ≡ tag_bytes tag }
-{
-    place.copy_from_slice(&tag.to_be_bytes());
-}
-
-// The replies of a set, by rising board number: each entry before its tag.
-fn put_replies(out: &mut [u8], at: usize, set: Set, entries: Entries<'_>) -> usize
-    requires { (at + 9 * size set.bits ≤ length out.old) × (Even set.bits entries) }
-    ensures { Put out.old at (replies_bytes (replies_of set.bits entries.entry)) result out.new }
-{
-    let mut n = at;
-    for board in 0..8 {
-        if let Some((entry, tag)) = reply(set, entries, board) {
-            n = put_reply(out, n, set, entry, tag);
+    // The tags of a set, by rising board number.
+    fn put_tags(&mut self, by: Tagged<'_>)
+        requires { self.old.at + length (tags_by by) ≤ length self.old.out.now }
+        ensures { Puts self.old (tags_by by.entry) self.new }
+    {
+        match by.tags {
+            Tags::Heard(bytes) => self.put(bytes),
+            Tags::Stored(row) => self.put_stored(by.set, row),
+            Tags::Fresh(tag) => self.put_tag(tag),
         }
     }
-    n
-}
 
-// An entry's byte and its tag.
-fn put_reply(out: &mut [u8], at: usize, set: Set, entry: Entry, tag: Tags<'_>) -> usize
-    requires { at + 1 + length (tags_of set.bits tag) ≤ length out.old }
-    ensures { Put out.old at (entry_byte entry ∷ tags_of set.bits tag.entry) result out.new }
-{
-    let n = put(out, at, &[entry.earlier % 16 * 16 + entry.change % 8]);
-    put_tags(out, n, set, tag)
+    // The tags of a set out of a row that has one for each board.
+    fn put_stored(&mut self, set: Set, row: &[u64; 8])
+        requires { self.old.at + 8 * size set.bits ≤ length self.old.out.now }
+        ensures { Puts self.old (stored_tags set.bits row.now) self.new }
+    {
+        for board in 0..8 {
+            if set.has(board) {
+                self.put_tag(row[board as usize]);
+            }
+        }
+    }
+
+    // A tag, the top byte first.
+    fn put_tag(&mut self, tag: u64)
+        requires { self.old.at + 8 ≤ length self.old.out.now }
+        ensures { Puts self.old (tag_bytes tag) self.new }
+    {
+        self.put(&tag.to_be_bytes());
+    }
+
+    // The replies of a set, by rising board number: each entry before its tag.
+    fn put_replies(&mut self, gathered: Gathered<'_>)
+        requires { self.old.at + 9 * size gathered.replies.set.bits ≤ length self.old.out.now }
+        ensures { Puts self.old (replies_bytes (replies_by gathered.entry.replies)) self.new }
+    {
+        let replies = gathered.replies;
+        for board in 0..8 {
+            if let Some((entry, tags)) = reply(replies, board) {
+                let own = Tagged {
+                    set: replies.set,
+                    tags,
+                };
+                self.put_reply(entry, own);
+            }
+        }
+    }
+
+    // An entry's byte and its tag.
+    fn put_reply(&mut self, entry: Entry, tag: Tagged<'_>)
+        requires { self.old.at + 1 + length (tags_by tag) ≤ length self.old.out.now }
+        ensures { Puts self.old (entry_byte entry ∷ tags_by tag.entry) self.new }
+    {
+        self.put(&[entry.earlier % 16 * 16 + entry.change % 8]);
+        self.put_tags(tag);
+    }
 }

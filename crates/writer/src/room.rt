@@ -1,44 +1,40 @@
 // How many bytes the parts of a layout have, before any is written.
 // No layout of a message has more than 141, so that the sums fit: specs of crate layout, Layouts.antt.
 ghost use Rattle.std.specs.Prelude.{◌≡◌, ◌+◌, ◌<◌, ◌≤◌, length};
-ghost use Rattle.wire.specs.Messages.{tags_of};
-ghost use Rattle.layout.specs.Layouts.{layout_bytes, middle_bytes, Sized};
+ghost use Rattle.wire.specs.Messages.{tags_by};
+ghost use Rattle.layout.specs.Layouts.{layout_bytes, middle_bytes};
 
-use boards::Set;
 use layout::plan::{Layout, Middle};
-use wire::message::Tags;
+use wire::message::{Tagged, Tags};
 
 // The bytes of all the parts.
 pub(crate) fn needed(layout: &Layout<'_>) -> usize
-    requires { (length (layout_bytes layout.now) ≤ 141) × (Sized layout.now.middle) }
+    requires { length (layout_bytes layout.now) ≤ 141 }
     ensures { result ≡ length (layout_bytes layout.now) }
 {
-    (layout.head.width / 8) as usize
-        + of_middle(layout.middle)
-        + 1
-        + of_tags(layout.set, layout.tags)
+    let front = layout.front;
+    (front.head.width / 8) as usize + of_middle(front.middle) + 1 + of_tags(layout.by)
 }
 
 // The bytes of what stands between the head and the last set.
 fn of_middle(middle: Middle<'_>) -> usize
-    requires { Sized middle }
     ensures { result ≡ length (middle_bytes middle.entry) }
 {
     match middle {
         Middle::Nothing => 0,
         Middle::Payload(bytes) => bytes.len(),
-        Middle::Tag { set, tag } => of_tags(set, tag),
-        Middle::Replies { set, .. } => 9 * set.len() as usize,
+        Middle::Tag(by) => of_tags(by),
+        Middle::Replies(gathered) => 9 * gathered.replies.set.len() as usize,
     }
 }
 
 // The bytes of the tags of a set.
-fn of_tags(set: Set, tags: Tags<'_>) -> usize
-    ensures { result ≡ length (tags_of set.bits tags.entry) }
+fn of_tags(by: Tagged<'_>) -> usize
+    ensures { result ≡ length (tags_by by.entry) }
 {
-    match tags {
+    match by.tags {
         Tags::Heard(bytes) => bytes.len(),
-        Tags::Stored(_) => 8 * set.len() as usize,
+        Tags::Stored(_) => 8 * by.set.len() as usize,
         Tags::Fresh(_) => 8,
     }
 }

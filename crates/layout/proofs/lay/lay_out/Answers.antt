@@ -1,66 +1,121 @@
--- Each kind by its head and its end.
+-- Each kind by its head and its end; a kind whose head may not stand has no layout.
 -- What the table has for the kind, antt computes.
-use Rattle.std.proofs.Common.{◌≡◌, ℕ, ◌<◌, true, refl, ap, ◌∙◌, subst, arith}
-use Rattle.std.proofs.lemmas.Bool.{and_from, le-leb}
+use Rattle.std.proofs.Common.{◌≡◌, ◌<◌, ℕ, ◌∷◌, [], true, refl, ap, ◌∙◌, subst, arith}
+use Rattle.std.proofs.lemmas.Bool.{and_from, both_ways, le-leb}
 use Rattle.boards.specs.Boards.{size, only}
-use Rattle.boards.proofs.Sets.{size_only}
-use Rattle.grammar.specs.Grammar.{Grammar, from_to}
-use Rattle.wire.specs.Fields.{lone_tag, tagged, own_tag}
-use Rattle.wire.specs.Messages.{tags_of}
-use Rattle.wire.specs.Format.{opening, content_values, set_values}
+use Rattle.grammar.specs.Grammar.{Grammar, Item, from_to}
+use Rattle.grammar.proofs.Held.{held}
+use Rattle.wire.specs.declared.message.Tags.{Tags}
+use Rattle.wire.specs.Fields.{entered, entries, lone, lone_tag, proof, tagged, own_tag}
+use Rattle.wire.specs.Messages.{tags_by, tags_of}
+use Rattle.wire.specs.Format.{body, opening, reply_values, set_values}
 use Rattle.layout.specs.Layouts.{Laid}
-use Rattle.layout.proofs.Fronts.{opened}
-use Rattle.layout.proofs.Allowed.{known, carrying, carried_small}
+use Rattle.layout.proofs.Fronts.{bare, plain}
+use Rattle.layout.proofs.Seals.{lone_above, lone_below, unlaid, unlaid_at}
+use Rattle.layout.proofs.Allowed.{any_set, carried_small, known}
 use Rattle.layout.proofs.lay.lay_out.Goals as goal
-
--- every byte is a set
-any_set : {s : ℕ} → s < 256 → from_to 0 255 s ≡ true
-any_set {s} h = and_from _ _ (le-leb 0 s (omega arith)) (le-leb s 255 (omega arith))
 
 itself : (n : ℕ) → from_to n n n ≡ true
 itself n = and_from _ _ (le-leb n n (omega arith)) (le-leb n n (omega arith))
 
-pub returns-in-Notify : goal.returns-in-Notify
-returns-in-Notify c = known _ c.in-Notify.is (c.alone.ensures _ (opened c.noted.ensures refl (omega arith) (omega arith) (lone_tag Grammar.done) refl))
+-- what the table has behind the rank of a last, and of a suggest-last
+abbrev after_last : Grammar
+after_last = Grammar.field 8 lone (λ _. entered (λ e. proof e Grammar.done))
 
-pub returns-in-Suggest : goal.returns-in-Suggest
-returns-in-Suggest c = known _ c.in-Suggest.is (c.sealed.ensures _ _ _ (opened c.noted-in-Suggest.ensures refl (omega arith) (omega arith) (tagged Grammar.done) refl) any_set (λ _. refl))
+abbrev after_suggest_last : Grammar
+after_suggest_last = Grammar.field 8 (from_to 0 255) (λ s. entries (size s) 0 (λ top. proof top Grammar.done))
 
-pub returns-in-Ack : goal.returns-in-Ack
-returns-in-Ack c = known _ c.in-Ack.is (c.alone-in-Ack.ensures _ (opened c.graded.ensures refl (omega arith) (omega arith) (lone_tag Grammar.done) refl))
+pub returns-in_err-noted-in-Notify : goal.returns-in_err-noted-in-Notify
+returns-in_err-noted-in-Notify c = known _ c.in-Notify.is (unlaid _ c.from_residual.ensures ((c.in_err-noted-in-Notify.ensures.begins (from_to 1 13) body (lone_tag Grammar.done) refl refl).none refl))
 
-pub returns-in-Proposal : goal.returns-in-Proposal
-returns-in-Proposal c = known _ c.in-Proposal.is (c.sealed-in-Proposal.ensures _ _ _ (opened c.graded-in-Proposal.ensures refl (omega arith) (omega arith) (tagged Grammar.done) refl) any_set (λ _. refl))
+pub returns-in_ok-noted-in-Notify : goal.returns-in_ok-noted-in-Notify
+returns-in_ok-noted-in-Notify c = known _ c.in-Notify.is (c.alone.ensures _ _ (bare c.bare.ensures (plain ((c.in_ok-noted-in-Notify.ensures.begins (from_to 1 13) body (lone_tag Grammar.done) refl refl).holds _ refl) refl)) (lone_below c.in-Notify.speaker) (lone_above c.in-Notify.speaker))
 
-pub returns-in-Ready : goal.returns-in-Ready
-returns-in-Ready c = known _ c.in-Ready.is (c.alone-in-Ready.ensures _ (opened c.graded-in-Ready.ensures refl (omega arith) (omega arith) (lone_tag Grammar.done) refl))
+pub returns-in_err-noted-in-Suggest : goal.returns-in_err-noted-in-Suggest
+returns-in_err-noted-in-Suggest c = known _ c.in-Suggest.is (unlaid _ c.from_residual-in_err-noted-in-Suggest.ensures ((c.in_err-noted-in-Suggest.ensures.begins (from_to 1 13) body (tagged Grammar.done) refl refl).none refl))
 
-pub returns-in-Change : goal.returns-in-Change
-returns-in-Change c = known _ c.in-Change.is (c.sealed-in-Change.ensures _ _ _ (opened c.graded-in-Change.ensures refl (omega arith) (omega arith) (tagged Grammar.done) refl) any_set (λ _. refl))
+pub returns-in_ok-noted-in-Suggest : goal.returns-in_ok-noted-in-Suggest
+returns-in_ok-noted-in-Suggest c = known _ c.in-Suggest.is (c.sealed.ensures _ _ _ (bare c.bare-in-Suggest.ensures (plain ((c.in_ok-noted-in-Suggest.ensures.begins (from_to 1 13) body (tagged Grammar.done) refl refl).holds _ refl) refl)) any_set refl)
 
-pub returns-in-Deputy : goal.returns-in-Deputy
-returns-in-Deputy c = known _ c.in-Deputy.is (c.alone-in-Deputy.ensures _ (opened c.ranked.ensures refl (omega arith) (omega arith) (lone_tag Grammar.done) refl))
+pub returns-in_err-graded-in-Ack : goal.returns-in_err-graded-in-Ack
+returns-in_err-graded-in-Ack c = known _ c.in-Ack.is (unlaid _ c.from_residual-in_err-graded-in-Ack.ensures ((c.in_err-graded-in-Ack.ensures.begins (from_to 1 13) body (lone_tag Grammar.done) refl refl).none refl))
 
-pub returns-in-Query : goal.returns-in-Query
-returns-in-Query c = known _ c.in-Query.is (c.sealed-in-Query.ensures _ _ _ (opened c.ranked-in-Query.ensures refl (omega arith) (omega arith) (tagged Grammar.done) refl) any_set (λ _. refl))
+pub returns-in_ok-graded-in-Ack : goal.returns-in_ok-graded-in-Ack
+returns-in_ok-graded-in-Ack c = known _ c.in-Ack.is (c.alone-in-Ack.ensures _ _ (bare c.bare-in-Ack.ensures (plain ((c.in_ok-graded-in-Ack.ensures.begins (from_to 1 13) body (lone_tag Grammar.done) refl refl).holds _ refl) refl)) (lone_below c.in-Ack.speaker) (lone_above c.in-Ack.speaker))
 
-pub returns-in-Last : goal.returns-in-Last
-returns-in-Last c = known _ c.in-Last.is c.last.ensures
+pub returns-in_err-graded-in-Proposal : goal.returns-in_err-graded-in-Proposal
+returns-in_err-graded-in-Proposal c = known _ c.in-Proposal.is (unlaid _ c.from_residual-in_err-graded-in-Proposal.ensures ((c.in_err-graded-in-Proposal.ensures.begins (from_to 1 13) body (tagged Grammar.done) refl refl).none refl))
 
-pub returns-in-SuggestLast : goal.returns-in-SuggestLast
-returns-in-SuggestLast c = known _ c.in-SuggestLast.is c.suggest_last.ensures
+pub returns-in_ok-graded-in-Proposal : goal.returns-in_ok-graded-in-Proposal
+returns-in_ok-graded-in-Proposal c = known _ c.in-Proposal.is (c.sealed-in-Proposal.ensures _ _ _ (bare c.bare-in-Proposal.ensures (plain ((c.in_ok-graded-in-Proposal.ensures.begins (from_to 1 13) body (tagged Grammar.done) refl refl).holds _ refl) refl)) any_set refl)
 
-pub returns-in-Init : goal.returns-in-Init
-returns-in-Init c =
+pub returns-in_err-graded-in-Ready : goal.returns-in_err-graded-in-Ready
+returns-in_err-graded-in-Ready c = known _ c.in-Ready.is (unlaid _ c.from_residual-in_err-graded-in-Ready.ensures ((c.in_err-graded-in-Ready.ensures.begins (from_to 1 13) body (lone_tag Grammar.done) refl refl).none refl))
+
+pub returns-in_ok-graded-in-Ready : goal.returns-in_ok-graded-in-Ready
+returns-in_ok-graded-in-Ready c = known _ c.in-Ready.is (c.alone-in-Ready.ensures _ _ (bare c.bare-in-Ready.ensures (plain ((c.in_ok-graded-in-Ready.ensures.begins (from_to 1 13) body (lone_tag Grammar.done) refl refl).holds _ refl) refl)) (lone_below c.in-Ready.speaker) (lone_above c.in-Ready.speaker))
+
+pub returns-in_err-graded-in-Change : goal.returns-in_err-graded-in-Change
+returns-in_err-graded-in-Change c = known _ c.in-Change.is (unlaid _ c.from_residual-in_err-graded-in-Change.ensures ((c.in_err-graded-in-Change.ensures.begins (from_to 1 13) body (tagged Grammar.done) refl refl).none refl))
+
+pub returns-in_ok-graded-in-Change : goal.returns-in_ok-graded-in-Change
+returns-in_ok-graded-in-Change c = known _ c.in-Change.is (c.sealed-in-Change.ensures _ _ _ (bare c.bare-in-Change.ensures (plain ((c.in_ok-graded-in-Change.ensures.begins (from_to 1 13) body (tagged Grammar.done) refl refl).holds _ refl) refl)) any_set refl)
+
+pub returns-in_err-ranked-in-Deputy : goal.returns-in_err-ranked-in-Deputy
+returns-in_err-ranked-in-Deputy c = known _ c.in-Deputy.is (unlaid _ c.from_residual-in_err-ranked-in-Deputy.ensures ((c.in_err-ranked-in-Deputy.ensures.begins (from_to 1 13) body (lone_tag Grammar.done) refl refl).none refl))
+
+pub returns-in_ok-ranked-in-Deputy : goal.returns-in_ok-ranked-in-Deputy
+returns-in_ok-ranked-in-Deputy c = known _ c.in-Deputy.is (c.alone-in-Deputy.ensures _ _ (bare c.bare-in-Deputy.ensures (plain ((c.in_ok-ranked-in-Deputy.ensures.begins (from_to 1 13) body (lone_tag Grammar.done) refl refl).holds _ refl) refl)) (lone_below c.in-Deputy.speaker) (lone_above c.in-Deputy.speaker))
+
+pub returns-in_err-ranked-in-Query : goal.returns-in_err-ranked-in-Query
+returns-in_err-ranked-in-Query c = known _ c.in-Query.is (unlaid _ c.from_residual-in_err-ranked-in-Query.ensures ((c.in_err-ranked-in-Query.ensures.begins (from_to 1 13) body (tagged Grammar.done) refl refl).none refl))
+
+pub returns-in_ok-ranked-in-Query : goal.returns-in_ok-ranked-in-Query
+returns-in_ok-ranked-in-Query c = known _ c.in-Query.is (c.sealed-in-Query.ensures _ _ _ (bare c.bare-in-Query.ensures (plain ((c.in_ok-ranked-in-Query.ensures.begins (from_to 1 13) body (tagged Grammar.done) refl refl).holds _ refl) refl)) any_set refl)
+
+pub returns-in_err-ranked-in-Last : goal.returns-in_err-ranked-in-Last
+returns-in_err-ranked-in-Last c = known _ c.in-Last.is (unlaid _ c.from_residual-in_err-ranked-in-Last.ensures ((c.in_err-ranked-in-Last.ensures.begins (from_to 1 13) body after_last refl refl).none refl))
+
+pub returns-in_err-own-in-Last : goal.returns-in_err-own-in-Last
+returns-in_err-own-in-Last c =
+    let h = (c.in_ok-ranked-in-Last.ensures.begins (from_to 1 13) body after_last refl refl).holds _ refl in
+    known _ c.in-Last.is (unlaid_at {is = opening 9 c.in-Last.view (Item.num 4 c.in-Last.rank ∷ [])} _ c.from_residual-in_err-own-in-Last.ensures h.goes (λ a. both_ways _ (lone_above c.in-Last.speaker (c.in_err-own-in-Last.ensures.none refl)) (held a).2))
+
+pub returns-in_ok-own-in-Last : goal.returns-in_ok-own-in-Last
+returns-in_ok-own-in-Last c =
+    let x = c.in-Last in
+    let h = (c.in_ok-ranked-in-Last.ensures.begins (from_to 1 13) body after_last refl refl).holds _ refl in
+    let q = c.in_ok-own-in-Last.field-0 in
+    let o = c.in_ok-own-in-Last.ensures.one q refl in
+    let P : ℕ → Tags → Type 0 = λ s t. Laid (opening 9 x.view (Item.num 4 x.rank ∷ Item.num 8 s ∷ reply_values (record { entry = x.entry; tag = tags_of s t }) (set_values x.proof.set.bits (tags_by x.proof)))) c.last.result in
+    known _ x.is (subst (P (only x.speaker)) o.2 (subst (λ s. P s q.tags) o.1 (c.last.ensures x.view x.rank h (ap lone o.1 ∙ lone_below x.speaker o.0))))
+
+pub returns-in_err-ranked-in-SuggestLast : goal.returns-in_err-ranked-in-SuggestLast
+returns-in_err-ranked-in-SuggestLast c = known _ c.in-SuggestLast.is (unlaid _ c.from_residual-in_err-ranked-in-SuggestLast.ensures ((c.in_err-ranked-in-SuggestLast.ensures.begins (from_to 1 13) body after_suggest_last refl refl).none refl))
+
+pub returns-in_ok-ranked-in-SuggestLast : goal.returns-in_ok-ranked-in-SuggestLast
+returns-in_ok-ranked-in-SuggestLast c =
+    let h = (c.in_ok-ranked-in-SuggestLast.ensures.begins (from_to 1 13) body after_suggest_last refl refl).holds _ refl in
+    known _ c.in-SuggestLast.is (c.suggest_last.ensures c.in-SuggestLast.view c.in-SuggestLast.rank h)
+
+pub returns-in_err-loaded-in-Init : goal.returns-in_err-loaded-in-Init
+returns-in_err-loaded-in-Init c = known _ c.in-Init.is (unlaid _ c.from_residual-in_err-loaded-in-Init.ensures (c.in_err-loaded-in-Init.ensures.none refl refl own_tag refl))
+
+pub returns-in_ok-loaded-in-Init : goal.returns-in_ok-loaded-in-Init
+returns-in_ok-loaded-in-Init c =
     let x = c.in-Init.content in
-    let e : c.only.result.bits ≡ only x.sender = c.only.ensures in
-    known _ c.in-Init.is
-    (subst (λ s. Laid (opening 11 c.in-Init.view (content_values x.sender x.number x.sort x.payload.now (set_values s (tags_of s c.in-Init.tag)))) c.sealed-in-Init.result) e
-    (c.sealed-in-Init.ensures _ _ _ (carrying _ c.carried.ensures.head c.carried.ensures.fit own_tag refl) (λ _. ap (from_to (only x.sender) (only x.sender)) e ∙ itself (only x.sender))
-    (λ a. omega (arith, ap size e, size_only x.sender (carried_small {f = own_tag} refl a).0))))
+    let f = c.in_ok-loaded-in-Init.ensures.fronts _ refl refl own_tag refl in
+    let small : x.sender < 8 = (carried_small {f = own_tag} refl f.goes).0 in
+    known _ c.in-Init.is (c.alone-in-Init.ensures _ _ f (λ _. itself (only x.sender)) (λ h. absurd (omega arith)))
 
-pub returns-in-Echo : goal.returns-in-Echo
-returns-in-Echo c = known _ c.in-Echo.is (c.alone-in-Echo.ensures _ (carrying _ c.carried-in-Echo.ensures.head c.carried-in-Echo.ensures.fit (λ _. lone_tag Grammar.done) refl))
+pub returns-in_err-loaded-in-Echo : goal.returns-in_err-loaded-in-Echo
+returns-in_err-loaded-in-Echo c = known _ c.in-Echo.is (unlaid _ c.from_residual-in_err-loaded-in-Echo.ensures (c.in_err-loaded-in-Echo.ensures.none refl refl (λ _. lone_tag Grammar.done) refl))
 
-pub returns-in-Commit : goal.returns-in-Commit
-returns-in-Commit c = known _ c.in-Commit.is (c.sealed-in-Commit.ensures _ _ _ (carrying _ c.carried-in-Commit.ensures.head c.carried-in-Commit.ensures.fit (λ _. tagged Grammar.done) refl) any_set (λ _. refl))
+pub returns-in_ok-loaded-in-Echo : goal.returns-in_ok-loaded-in-Echo
+returns-in_ok-loaded-in-Echo c = known _ c.in-Echo.is (c.alone-in-Echo.ensures _ _ (c.in_ok-loaded-in-Echo.ensures.fronts _ refl refl (λ _. lone_tag Grammar.done) refl) (lone_below c.in-Echo.speaker) (lone_above c.in-Echo.speaker))
+
+pub returns-in_err-loaded-in-Commit : goal.returns-in_err-loaded-in-Commit
+returns-in_err-loaded-in-Commit c = known _ c.in-Commit.is (unlaid _ c.from_residual-in_err-loaded-in-Commit.ensures (c.in_err-loaded-in-Commit.ensures.none refl refl (λ _. tagged Grammar.done) refl))
+
+pub returns-in_ok-loaded-in-Commit : goal.returns-in_ok-loaded-in-Commit
+returns-in_ok-loaded-in-Commit c = known _ c.in-Commit.is (c.sealed-in-Commit.ensures _ _ _ (c.in_ok-loaded-in-Commit.ensures.fronts _ refl refl (λ _. tagged Grammar.done) refl) any_set refl)

@@ -1,25 +1,31 @@
 -- The set in the head, then the replies of its boards.
 -- Then the proof for the highest earlier rank.
-use Rattle.std.proofs.Common.{◌≡◌, ℕ, ◌^◌, ◌<◌, sym, refl, subst, arith}
-use Rattle.boards.specs.Boards.{size}
-use Rattle.grammar.specs.Grammar.{Grammar, from_to}
-use Rattle.wire.specs.Fields.{entries, proof}
-use Rattle.layout.specs.Layouts.{LaidSuggestLast}
-use Rattle.layout.proofs.Rests.{un_num}
-use Rattle.layout.proofs.Fronts.{replied, whole}
+use Rattle.std.proofs.Common.{ℕ, ◌++◌, refl, arith}
+use Rattle.grammar.specs.Grammar.{Grammar}
+use Rattle.head.proofs.Steps.{step, wide_as}
+use Rattle.wire.specs.Fields.{proof}
+use Rattle.wire.specs.Messages.{tags_by, replies_by}
+use Rattle.wire.specs.Format.{replies_values, set_values}
+use Rattle.layout.proofs.Fronts.{replied}
+use Rattle.layout.proofs.Seals.{unlaid, unlaid_at}
+use Rattle.layout.proofs.Allowed.{any_set}
 use Rattle.layout.proofs.lay.suggest_last.Goals as goal
 
-proofs : ℕ → Grammar
-proofs top = proof top Grammar.done
+abbrev after : ℕ → Grammar
+after top = proof top Grammar.done
+
+pub returns-in_err-head : goal.returns-in_err-head
+returns-in_err-head c = λ v r p. unlaid _ c.from_residual.ensures ((step p c.in_err-head.ensures (any_set {s = c.args.replies.set.bits} (omega arith)) (omega arith, omega (arith, wide_as p))).none refl)
 
 pub returns : goal.returns
-unfolding proofs
-returns c =
-    let w : c.with-head.result.width ≡ 24 = omega arith in
-    let held = c.with-head.ensures.holds _ _ _ refl (c.ranked.ensures.holds (Grammar.field 8 (from_to 0 255) (λ s. entries (size s) 0 proofs)) refl) in
-    c.proven.ensures _ (replied proofs c.args.set c.args.entries held (whole 24 w (subst (λ n. c.with-head.result.number < 2 ^ n) w c.with-head.ensures.below) refl (omega arith) (omega arith)) c.in_ok-top.ensures)
+returns c = λ v r p.
+    let set = (step p c.in_ok-head.ensures (any_set {s = c.args.replies.set.bits} (omega arith)) (omega arith, omega (arith, wide_as p))).holds _ refl in
+    let x = c.in_ok-gathered.gathered in
+    let g = c.in_ok-gathered.ensures.some x refl in
+    c.proven.ensures _ (replied after x c.args.replies g.0 set refl g.1)
 
-pub returns-in_err-top : goal.returns-in_err-top
-returns-in_err-top c =
-    subst (LaidSuggestLast c.args.view c.args.rank c.args.set c.args.entries c.args.proof c.args.acks) (sym c.from_residual.ensures)
-    (λ a. c.in_err-top.ensures _ _ (un_num (un_num (un_num (un_num a).2).2).2).2)
+pub returns-in_err-gathered : goal.returns-in_err-gathered
+returns-in_err-gathered c = λ v r p.
+    let set = (step p c.in_ok-head.ensures (any_set {s = c.args.replies.set.bits} (omega arith)) (omega arith, omega (arith, wide_as p))).holds _ refl in
+    let q = c.args.proof in
+    unlaid_at (replies_values (replies_by c.args.replies) ++ set_values q.set.bits (tags_by q)) c.from_residual-in_err-gathered.ensures set.goes (c.in_err-gathered.ensures.none refl q.set.bits (tags_by q))

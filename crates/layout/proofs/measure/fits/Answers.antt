@@ -8,5 +8,5 @@ use Rattle.layout.proofs.measure.fits.Goals as goal
 
 pub returns-in-Stored : goal.returns-in-Stored
 returns-in-Stored c =
-    subst (λ t. Measured c.args.set t true) (sym c.in-Stored.is)
-    (record { told = sym (eq-eqb _ _ (stored_long c.args.set.bits _)); fit = stored_fits c.args.set.bits _ })
+    subst (λ t. Measured (record { set = c.args.by.set; tags = t }) true) (sym c.in-Stored.is)
+    (record { told = sym (eq-eqb _ _ (stored_long c.args.by.set.bits _)); fit = stored_fits c.args.by.set.bits _ })

@@ -7,5 +7,5 @@ use Rattle.writer.proofs.room.of_tags.Goals as goal
 
 pub returns-in-Stored : goal.returns-in-Stored
 returns-in-Stored c =
-    let s = c.args.set.bits in
+    let s = c.args.by.set.bits in
     ap (λ n. 8 * n) c.len.ensures.is ∙ sym (stored_long s c.in-Stored.field-0.now) ∙ sym (ap (λ t. length (tags_of s t)) c.in-Stored.is)

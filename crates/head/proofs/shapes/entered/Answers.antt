@@ -1,0 +1,38 @@
+-- Earlier rank, a zero bit and a change; without an earlier rank there is no change.
+-- There is room for each since there is for all.
+use Rattle.std.proofs.Common.{[], ◌∷◌, List, sym, refl, subst, arith}
+use Rattle.std.proofs.lemmas.List.{append_assoc}
+use Rattle.grammar.specs.Grammar.{Item, from_to}
+use Rattle.head.specs.Heads.{Begins}
+use Rattle.head.proofs.Steps.{barred_more, no_head, step, wider}
+use Rattle.head.proofs.shapes.entered.Goals as goal
+
+pub returns-in_err-with : goal.returns-in_err-with
+returns-in_err-with c = record {
+  begins = λ g is k room p.
+      let e = c.args.entry in
+      let one = step p c.in_err-with.ensures refl (omega arith, omega arith) in
+      let rest : List Item = Item.num 1 0 ∷ Item.num 3 e.change ∷ [] in
+      subst (λ l. Begins g l (k e.earlier) c.from_residual.result) (simp append_assoc) (no_head c.from_residual.ensures (barred_more rest (one.none refl)));
+}
+
+pub returns-in_err-with-2 : goal.returns-in_err-with-2
+returns-in_err-with-2 c = record {
+  begins = λ g is k room p.
+      let e = c.args.entry in
+      let one = (step p c.in_ok-with.ensures refl (omega arith, omega arith)).holds _ refl in
+      let two = step one c.in_err-with-2.ensures refl (omega arith, omega (arith, wider (c.in_ok-with.ensures.longer _ refl))) in
+      let rest : List Item = Item.num 3 e.change ∷ [] in
+      subst (λ l. Begins g l (k e.earlier) c.from_residual-in_err-with-2.result) (simp append_assoc) (no_head c.from_residual-in_err-with-2.ensures (barred_more rest (two.none refl)));
+}
+
+pub returns : goal.returns
+returns c = record {
+  begins = λ g is k room p.
+      let e = c.args.entry in
+      let wide = wider (c.in_ok-with.ensures.longer _ refl) in
+      let one = (step p c.in_ok-with.ensures refl (omega arith, omega arith)).holds _ refl in
+      let two = (step one c.in_ok-with-2.ensures refl (omega arith, omega (arith, wide))).holds _ refl in
+      let three = step two c.with-3.ensures (λ i. from_to 0 (sym c.most_change-most.ensures i) e.change) (omega arith, omega (arith, wide, wider (c.in_ok-with-2.ensures.longer _ refl))) in
+      subst (λ l. Begins g l (k e.earlier) c.with-3.result) (simp append_assoc) three;
+}
