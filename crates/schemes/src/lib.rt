@@ -11,23 +11,19 @@ pub mod laws;
 pub mod register;
 
 // Why a scheme does not sign.
-#[derive(Clone, Copy)]
+#[derive(Clone, Copy, PartialEq, Eq)]
 pub enum SignRefusal {
-    Board,
-    Long,
-    Spent,
+    Board = 1,
+    Long = 4,
+    Spent = 17,
 }
 
-impl SignRefusal {
-    // The number by which the refusal is known.
-    pub fn number(self) -> u8
-        ensures { result ≡ number self }
-    {
-        match self {
-            SignRefusal::Board => 1,
-            SignRefusal::Long => 4,
-            SignRefusal::Spent => 17,
-        }
+// The number by which a refusal is known.
+impl From<SignRefusal> for u8 {
+    ghost from_gives = { λ r n. n ≡ number r };
+
+    fn from(refusal: SignRefusal) -> u8 {
+        refusal as u8
     }
 }
 
@@ -57,7 +53,7 @@ pub trait Scheme {
 fn is_signable(board: u8, words: &[u8]) -> bool
     ensures { result ≡ signable board words.now }
 {
-    board < 8 && words.len() > 0 && words.len() <= 64
+    board < 8 && (1..=64).contains(&words.len())
 }
 
 // Refuses for the first reason that holds.
@@ -67,7 +63,7 @@ fn admit(board: u8, words: &[u8], spent: bool) -> Result<(), SignRefusal>
     if board >= 8 {
         return Err(SignRefusal::Board);
     }
-    if words.len() == 0 || words.len() > 64 {
+    if !(1..=64).contains(&words.len()) {
         return Err(SignRefusal::Long);
     }
     if spent {
