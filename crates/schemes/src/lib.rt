@@ -33,9 +33,6 @@ pub trait Scheme {
 
     ghost spent: { Self → Bool };
 
-    // Only a board 0 to 7 and words of 1 to 64 bytes ever have a good tag.
-    ghost bounded: { Bounded good };
-
     // Whether the tag is good for the board and the words.
     fn check(&self, board: u8, words: &[u8], tag: u64) -> bool
         ensures { result ≡ good self.now board words.now tag };
@@ -47,6 +44,9 @@ pub trait Scheme {
     // A tag that is good for the board and the words from now on, or a refusal that changes nothing.
     fn sign(&mut self, board: u8, words: &[u8]) -> Result<u64, SignRefusal>
         ensures { Signing good spent self.old self.new board words.now result };
+
+    // Only a board 0 to 7 and words of 1 to 64 bytes ever have a good tag.
+    ghost bounded: { Bounded good };
 }
 
 // Whether a board and words can be signed at all.
