@@ -67,14 +67,8 @@ stored_at s ts b e =
     let h = member_below s b e in
     eight_at (listed (member s) f 8) (tags_long (λ k. get_or ts k 0) (member s) 8) (tally (member s) b) (omega (arith, length_listed (member s) f 8, tally_rises (member s) b 8 h e)) ∙ listed_at (member s) f 8 b [] h e
 
-pub place_alone : (b : ℕ) → b < 8 → member (only b) b ≡ true → place (only b) b ≡ 0
+place_alone : (b : ℕ) → b < 8 → member (only b) b ≡ true → place (only b) b ≡ 0
 place_alone b h e = omega (arith, place_below (only b) b e, size_only b h)
-
--- A set of one board that has a member has that board.
-pub speaks_alone : (b k : ℕ) → member (only b) k ≡ true → member (only b) b ≡ true
-speaks_alone b k e =
-    let same : k ≡ b = eqb-true k b (sym (member_only b k (member_below (only b) k e)) ∙ e) in
-    ap (member (only b)) (sym same) ∙ e
 
 length_joined : (xs : List (List ℕ)) → ((i : ℕ) → i < length xs → length (get_or xs i []) ≡ 8) → length (joined xs) ≡ 8 * length xs
 unfolding joined
@@ -118,7 +112,7 @@ pub had : (s b : ℕ) (t u : List ℕ) (r : Option ℕ) → member s b ≡ true 
 had s b t u (Some x) i e h = (i, h ∙ e)
 had s b t u None i e h = inr (λ k. h (ap length e ∙ k))
 
-pub length_replies_in : (n : ℕ) (xs : List ℕ) → length (replies_in n xs) ≡ n
+length_replies_in : (n : ℕ) (xs : List ℕ) → length (replies_in n xs) ≡ n
 unfolding replies_in
 length_replies_in zero xs = refl
 length_replies_in (suc n) xs = length-append (replies_in n xs) (reply_at xs (9 * n) ∷ []) ∙ omega (arith, length_replies_in n xs)

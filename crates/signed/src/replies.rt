@@ -56,18 +56,14 @@ fn lower(a: Entry, b: Entry) -> Entry
 fn lowest_heard(bytes: &[u8]) -> Entry
     ensures { result ≡ lowest (heard_replies bytes.now) }
 {
-    let mut found = Entry::NONE;
-    let replies = bytes.len() / 9 + (bytes.len() % 9 + 8) / 9;
-    for i in (0..replies).rev() {
-        found = lower(entry_at(bytes, 9 * i), found);
-    }
-    found
+    bytes.chunks(9).rev().fold(Entry::NONE, |found, reply| lower(entry_at(reply, 0), found))
 }
 
 // The entry of the lowest earlier rank among the stored ones of a set.
 fn lowest_stored(set: Set, entries: &[Entry; 8]) -> Entry
     ensures { (ts : List ℕ) → result ≡ lowest (stored_replies set.bits entries.now ts) }
 {
+    // In a chain the bound of the index would have to be shown once more, by a closure that knows nothing of the filter before it.
     let mut found = Entry::NONE;
     for board in (0..8u8).rev() {
         if set.has(board) {

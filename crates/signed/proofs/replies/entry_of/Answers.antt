@@ -5,7 +5,6 @@ use Rattle.boards.specs.Boards.{place}
 use Rattle.boards.proofs.Members.{member_below}
 use Rattle.wire.specs.Messages.{replies_of, reply_at}
 use Rattle.wire.specs.Acts.{no_reply}
-use Rattle.wire.specs.declared.message.Entry.{Entry}
 use Rattle.signed.proofs.Listed.{heard_at, stored_reply_at}
 use Rattle.signed.proofs.replies.entry_of.Goals as goal
 

@@ -1,6 +1,6 @@
 -- The tag behind an entry: heard one byte after it, stored at the board's number.
 -- Both are the tag that the list of replies has there.
-use Rattle.std.proofs.Common.{◌≡◌, ◌+◌, ◌*◌, get_or, take, drop, sym, ap, ◌∙◌, arith}
+use Rattle.std.proofs.Common.{◌≡◌, ◌*◌, get_or, sym, ap, ◌∙◌, arith}
 use Rattle.boards.specs.Boards.{place}
 use Rattle.boards.proofs.Members.{member_below}
 use Rattle.wire.specs.Messages.{replies_of, reply_at, tag_bytes}
