@@ -11,7 +11,7 @@ use Rattle.wire.specs.Acts.{Act, Allowed, words, tag_number}
 use Rattle.wire.proofs.Eights.{number_of_tag}
 use Rattle.checks.specs.declared.Part.{Part}
 use Rattle.checks.specs.Checks.{boards_in, act_in, tag_in, good_in, Sound, SoundBoards}
-use Rattle.checks.specs.Parts.{StandsFor, Decided}
+use Rattle.checks.specs.Parts.{StandsFor}
 
 -- What is had of a board's tag decides whether it is sound.
 pub decided : (part : Part) (good : Good) (m : Msg) (b : ℕ) (a : Act) (x : ℕ) (r : Bool) → member (boards_in part m) b ≡ true → a ≡ act_in part m b
@@ -21,6 +21,10 @@ decided part good m b a x r i e et small d =
       (λ y. let s = d.0 y in record { belongs = i; may_sign = subst Allowed e s.0; eight = ap length (sym et); is_good = sym same ∙ s.1 }),
       (λ s. d.1 (subst Allowed (sym e) s.may_sign, same ∙ s.is_good)),
     )
+
+-- Of the boards below n just those whose tags in a part are sound are in set r.
+abbrev Decided : Part → Good → Msg → ℕ → ℕ → Type 0
+Decided part good m n r = (b : ℕ) → b < n → Decides (member r b) (Sound part good m b)
 
 -- Of the boards below n just the sound ones are found, and none from n on.
 abbrev pub Found : Part → Good → Msg → ℕ → ℕ → Type 0

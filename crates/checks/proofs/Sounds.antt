@@ -1,9 +1,9 @@
 -- What is sound in a formed message: there every act may be signed and every tag is eight bytes, so that a sound tag is a good one.
--- The sound boards of a part lie in it, and are all of it exactly if every tag of the part is sound.
-use Rattle.std.proofs.Common.{◌≡◌, ℕ, ◌<◌, Bool, true, false, ◌&&◌, length, Decides, sym, refl, ap, ◌∙◌}
+-- Every tag of a part is sound exactly if its boards are all among the sound ones.
+use Rattle.std.proofs.Common.{◌≡◌, ℕ, Bool, true, false, ◌&&◌, length, Decides, sym, refl}
 use Rattle.std.proofs.lemmas.Bool.{and_from, and_parts}
 use Rattle.boards.specs.Boards.{member, Within}
-use Rattle.boards.proofs.Members.{member_below, same_set}
+use Rattle.boards.proofs.Members.{member_below}
 use Rattle.schemes.specs.Meaning.{Good}
 use Rattle.wire.specs.Messages.{Msg}
 use Rattle.wire.specs.Format.{Formed}
@@ -57,26 +57,8 @@ formed_tells good m f = (
 pub sound_is_genuine : (good : Good) (m : Msg) (r : Bool) → Decides r (AllSound good m) → TellsGenuine good m r
 sound_is_genuine good m r d f = let t = formed_tells good m f in same_test r (genuine good m) (λ e. t.1 (d.0 e)) (λ e. d.1 (t.0 e))
 
--- Where every tag of a part is sound, each board of the part has a sound one.
-pub sound_at : (part : Part) (good : Good) (m : Msg) (b : ℕ) → PartSound part good m → member (boards_in part m) b ≡ true → Sound part good m b
-unfolding PartSound
-sound_at part good m b s i = s b i
-
--- The sound boards of a part are boards of it.
-pub sound_within : (part : Part) (good : Good) (m : Msg) (r : ℕ) → SoundBoards part good m r → Within r (boards_in part m)
-sound_within part good m r s k h e = ((s k).0 e).belongs
-
 -- Every tag of a part is sound exactly if each of its boards is a sound one.
 pub within_sound : (part : Part) (good : Good) (m : Msg) (r : ℕ) → SoundBoards part good m r
     → (Within (boards_in part m) r → PartSound part good m) × (PartSound part good m → Within (boards_in part m) r)
 unfolding PartSound
 within_sound part good m r s = ((λ w b i. (s b).0 (w b (member_below _ b i) i)), (λ a k h i. (s k).1 (a k i)))
-
--- Every tag of a part is sound exactly if the sound boards are the set of the part.
-pub same_sound : (part : Part) (good : Good) (m : Msg) (r : ℕ) → r < 256 → boards_in part m < 256 → SoundBoards part good m r
-    → (r ≡ boards_in part m → PartSound part good m) × (PartSound part good m → r ≡ boards_in part m)
-same_sound part good m r hr hb s =
-    let w = within_sound part good m r s in (
-      (λ e. w.0 (λ k h i. ap (λ x. member x k) e ∙ i)),
-      (λ a. same_set r (boards_in part m) hr hb (λ k h. same_test (member r k) (member (boards_in part m) k) (sound_within part good m r s k h) (w.1 a k h))),
-    )

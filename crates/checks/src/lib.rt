@@ -2,11 +2,12 @@
 // What a tag stands for: docs/FRAMES.md, "Signed words". Words of the contracts: specs/Checks.antt.
 #![tactic(auto)]
 
-ghost use Rattle.std.specs.Prelude.{Decides};
+ghost use Rattle.std.specs.Prelude.{◌≡◌, Decides};
 ghost use Rattle.wire.specs.Messages.{meaning};
-ghost use Rattle.checks.specs.Checks.{AllSound, GenuineMeans, GoodBoards, PartSound, Sound, SoundBoards, TellsGenuine};
-ghost use Rattle.checks.specs.Parts.{BoardsAre, Decided, StandsFor, StatedIn, TaggedIn};
 ghost use Rattle.words.specs.Said.{said};
+ghost use Rattle.signed.specs.Signed.{TagIs};
+ghost use Rattle.checks.specs.Checks.{boards_in, tag_in, AllSound, GenuineMeans, GoodBoards, PartSound, Sound, SoundBoards, TellsGenuine};
+ghost use Rattle.checks.specs.Parts.{StandsFor, StatedIn};
 
 use boards::Set;
 use schemes::Scheme;
@@ -15,7 +16,7 @@ use wire::message::Message;
 use words::statement::Statement;
 
 // The two parts of a message that have tags: its signers', and those of the proof that lasts and suggest-lasts carry.
-#[derive(Clone, Copy)]
+#[derive(Clone, Copy, PartialEq, Eq)]
 pub enum Part {
     Signers,
     Proof,
@@ -23,39 +24,31 @@ pub enum Part {
 
 // The boards whose tags a part has.
 pub fn boards_of(m: &Message<'_>, part: Part) -> Set
-    ensures { BoardsAre part (meaning m.now) result }
+    ensures { result.bits ≡ boards_in part (meaning m.now) }
 {
     match part {
         Part::Signers => signers(m),
-        Part::Proof => match proof(m) {
-            Some(shown) => shown.boards,
-            None => Set::EMPTY,
-        },
+        Part::Proof => proof(m).map_or(Set::EMPTY, |shown| shown.boards),
     }
 }
 
 // What the board's tag in a part stands for; nothing for a board that is not of the part.
+#[tactic(auto, using(boards::proofs::Members::member_none))]
 fn stated<'a>(m: &Message<'a>, part: Part, board: u8) -> Option<Statement<'a>>
     ensures { StatedIn part (meaning m.now) board result }
 {
     match part {
         Part::Signers => statement(m, board),
-        Part::Proof => match proof(m) {
-            Some(shown) => {
-                if shown.boards.has(board) {
-                    Some(shown.act)
-                } else {
-                    None
-                }
-            }
-            None => None,
-        },
+        Part::Proof => {
+            let shown = proof(m)?;
+            shown.boards.has(board).then_some(shown.act)
+        }
     }
 }
 
 // The board's tag in a part; none for a board that is not of the part, or whose tag is not eight bytes.
 fn tag_in(m: &Message<'_>, part: Part, board: u8) -> Option<u64>
-    ensures { TaggedIn part (meaning m.now) board result }
+    ensures { TagIs (boards_in part (meaning m.now)) board (tag_in part (meaning m.now) board) result }
 {
     match part {
         Part::Signers => tag(m, board),
@@ -67,28 +60,24 @@ fn tag_in(m: &Message<'_>, part: Part, board: u8) -> Option<u64>
 fn holds<S: Scheme>(scheme: &S, board: u8, act: Statement<'_>, tag: u64) -> bool
     ensures { Decides result (StandsFor (S.good scheme.now) board (said act.entry) tag) }
 {
-    match act.words() {
-        Some(words) => scheme.check(board, words.as_slice(), tag),
-        None => false,
-    }
+    act.words()
+        .is_some_and(|words| scheme.check(board, words.as_slice(), tag))
 }
 
 // Whether the board's tag in a part is sound: it is there, and holds for what it stands for.
 fn is_sound<S: Scheme>(scheme: &S, m: &Message<'_>, part: Part, board: u8) -> bool
     ensures { Decides result (Sound part (S.good scheme.now) (meaning m.now) board) }
 {
-    let Some(act) = stated(m, part, board) else {
-        return false;
-    };
-    let Some(tag) = tag_in(m, part, board) else {
+    let (Some(act), Some(tag)) = (stated(m, part, board), tag_in(m, part, board)) else {
         return false;
     };
     holds(scheme, board, act, tag)
 }
 
-// The boards of a part whose tags are sound, each of the eight decided.
-fn sound_boards<S: Scheme>(scheme: &S, m: &Message<'_>, part: Part) -> Set
-    ensures { Decided part (S.good scheme.now) (meaning m.now) 8 result.bits }
+// The boards of a part whose tags are good.
+pub fn good_boards<S: Scheme>(scheme: &S, m: &Message<'_>, part: Part) -> Set
+    ensures sound { SoundBoards part (S.good scheme.now) (meaning m.now) result.bits }
+    ensures formed { GoodBoards part (S.good scheme.now) (meaning m.now) result.bits }
 {
     let mut found = Set::EMPTY;
     for board in 0..8 {
@@ -99,14 +88,6 @@ fn sound_boards<S: Scheme>(scheme: &S, m: &Message<'_>, part: Part) -> Set
     found
 }
 
-// The boards of a part whose tags are good.
-pub fn good_boards<S: Scheme>(scheme: &S, m: &Message<'_>, part: Part) -> Set
-    ensures sound { SoundBoards part (S.good scheme.now) (meaning m.now) result.bits }
-    ensures formed { GoodBoards part (S.good scheme.now) (meaning m.now) result.bits }
-{
-    sound_boards(scheme, m, part)
-}
-
 // Whether every board of a part has a good tag in it.
 fn part_good<S: Scheme>(scheme: &S, m: &Message<'_>, part: Part) -> bool
     ensures { Decides result (PartSound part (S.good scheme.now) (meaning m.now)) }
@@ -114,23 +95,15 @@ fn part_good<S: Scheme>(scheme: &S, m: &Message<'_>, part: Part) -> bool
     boards_of(m, part).within(good_boards(scheme, m, part))
 }
 
-// Whether every tag of both parts is sound.
-fn all_sound<S: Scheme>(scheme: &S, m: &Message<'_>) -> bool
-    ensures { Decides result (AllSound (S.good scheme.now) (meaning m.now)) }
-{
-    part_good(scheme, m, Part::Signers) && part_good(scheme, m, Part::Proof)
-}
-
 // Whether all tags of a message are good, those of its signers and those of its proof.
 pub fn all_good<S: Scheme>(scheme: &S, m: &Message<'_>) -> bool
     ensures sound { Decides result (AllSound (S.good scheme.now) (meaning m.now)) }
     ensures formed { TellsGenuine (S.good scheme.now) (meaning m.now) result }
 {
-    all_sound(scheme, m)
+    part_good(scheme, m, Part::Signers) && part_good(scheme, m, Part::Proof)
 }
 
 // A message is genuine exactly if each of its tags is good.
 pub fn genuine_is_each_tag_good()
     ensures { GenuineMeans }
-{
-}
+{}

@@ -11,13 +11,10 @@ mod tests {
     use schemes::register::{Entry as Row, Register};
     use std::process::Abort;
     use std::test::Fail;
-    use wire::message::{Entries, Entry, Message, Tags};
+    use wire::message::{Entries, Entry, Message, Replies, Tagged, Tags};
     use words::statement::Statement;
 
-    const NONE: Entry = Entry {
-        earlier: 0,
-        change: 0,
-    };
+    const NONE: Entry = Entry::NONE;
 
     const KEPT: Entry = Entry {
         earlier: 3,
@@ -29,15 +26,20 @@ mod tests {
         Set::only(a).with(b)
     }
 
+    // A set of boards with their tags, by board number.
+    fn stored(set: Set, tags: &[u64; 8]) -> Tagged<'_> {
+        Tagged {
+            set,
+            tags: Tags::Stored(tags),
+        }
+    }
+
     // A tag of the board for what it states.
     fn signed<S: Scheme>(scheme: &mut S, board: u8, said: Statement<'_>) -> Result<u64, Fail> {
-        let Some(words) = said.words() else {
-            return Err(Fail::new("no words"));
-        };
-        match scheme.sign(board, words.as_slice()) {
-            Ok(tag) => Ok(tag),
-            Err(_) => Err(Fail::new("no tag")),
-        }
+        let words = said.words().ok_or_else(|| Fail::new("no words"))?;
+        scheme
+            .sign(board, words.as_slice())
+            .map_err(|_| Fail::new("no tag"))
     }
 
     fn notify() -> Statement<'static> {
@@ -74,8 +76,7 @@ mod tests {
         let m = Message::Suggest {
             view: 1,
             change: 2,
-            set: pair(1, 3),
-            tags: Tags::Stored(tags),
+            by: stored(pair(1, 3), tags),
         };
         found(scheme, &m, Part::Signers)
     }
@@ -102,10 +103,11 @@ mod tests {
         let m = Message::SuggestLast {
             view: 1,
             rank: 4,
-            set: pair(0, 5),
-            entries: Entries::Stored { entries, tags },
-            proof: pair(2, 6),
-            acks: Tags::Stored(acks),
+            replies: Replies {
+                set: pair(0, 5),
+                entries: Entries::Stored { entries, tags },
+            },
+            proof: stored(pair(2, 6), acks),
         };
         found(scheme, &m, part)
     }

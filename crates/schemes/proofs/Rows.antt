@@ -1,13 +1,11 @@
 -- A row more: what the register's own account of a call means for the scheme.
 -- The tag is good from now on, and nothing else changes.
-use Rattle.std.proofs.Common.{◌≡◌, ℕ, ◌<◌, true, ◌&&◌, eqb, ltb, leb, ◌⊎◌, List, length, get_or, take, Ok, Err, Result, sym, ◌∙◌, subst, inl, inr, ⊎_elim, arith}
+use Rattle.std.proofs.Common.{◌≡◌, ℕ, ◌<◌, true, ◌&&◌, eqb, ltb, leb, ◌⊎◌, List, length, get_or, take, sym, ◌∙◌, subst, inl, inr, ⊎_elim, arith}
 use Rattle.std.proofs.lemmas.Slice.Eq.{bytes_eq-Decides}
 use Rattle.std.proofs.lemmas.Bool.{and_parts, and_from, ltb-true, lt-ltb, leb-false, eqb-true, cases_eq}
-use Rattle.schemes.specs.Meaning.{signable, Signed, Signing}
-use Rattle.schemes.specs.Registers.{no_entry, holds, register_good, register_spent, good_in, spent_in, Entered, Entering}
-use Rattle.schemes.specs.declared.SignRefusal.{SignRefusal}
+use Rattle.schemes.specs.Meaning.{signable, Signed}
+use Rattle.schemes.specs.Registers.{no_entry, holds, register_good, register_spent, Entered}
 use Rattle.schemes.specs.declared.register.Entry.{Entry}
-use Rattle.schemes.specs.declared.register.Register.{Register}
 use Rattle.schemes.proofs.Refusals.{unrefused}
 
 -- The parts of what good means in a register.
@@ -87,8 +85,3 @@ module _ {rows rows2 : List Entry} {used used2 board tag : ℕ} {words : List �
             });
         only = λ b w t g. ⊎_elim inl (λ e. inr (e.0, e.1)) (new_or_old b w t g);
       }
-
--- The register's own account of a call gives the scheme's.
-pub entering_signing : (r r2 : Register) (board : ℕ) (words : List ℕ) (answer : Result ℕ SignRefusal) → Entering r r2 board words answer → Signing good_in spent_in r r2 board words answer
-entering_signing r r2 board words (Ok tag) h = entered_signed h
-entering_signing r r2 board words (Err e) h = h

@@ -16,11 +16,7 @@ pub struct Tagged {
 pub fn count_good<S: Scheme>(scheme: &S, words: &[u8], tags: &[Tagged]) -> usize
     ensures { result ≡ good_count (S.good scheme.now) words.now tags.now }
 {
-    let mut count = 0;
-    for one in tags {
-        if scheme.check(one.board, words, one.tag) {
-            count += 1;
-        }
-    }
-    count
+    tags.iter()
+        .filter(|one| scheme.check(one.board, words, one.tag))
+        .count()
 }

@@ -31,7 +31,7 @@ impl Scheme for Keyed<'_> {
     ghost bounded = { keyed_bounded };
 
     fn check(&self, board: u8, words: &[u8], tag: u64) -> bool {
-        is_signable(board, words) && tag == siphash(&self.keys[board as usize], words)
+        is_signable(board, words) && tag == siphash(&self.keys[usize::from(board)], words)
     }
 
     fn is_spent(&self) -> bool {
@@ -43,6 +43,6 @@ impl Scheme for Keyed<'_> {
         ensures tag { Keying self.old self.new board words.now result }
     {
         admit(board, words, self.is_spent())?;
-        Ok(siphash(&self.keys[board as usize], words))
+        Ok(siphash(&self.keys[usize::from(board)], words))
     }
 }

@@ -11,23 +11,19 @@ pub mod laws;
 pub mod register;
 
 // Why a scheme does not sign.
-#[derive(Clone, Copy)]
+#[derive(Clone, Copy, PartialEq, Eq)]
 pub enum SignRefusal {
-    Board,
-    Long,
-    Spent,
+    Board = 1,
+    Long = 4,
+    Spent = 17,
 }
 
-impl SignRefusal {
-    // The number by which the refusal is known.
-    pub fn number(self) -> u8
-        ensures { result ≡ number self }
-    {
-        match self {
-            SignRefusal::Board => 1,
-            SignRefusal::Long => 4,
-            SignRefusal::Spent => 17,
-        }
+// The number by which a refusal is known.
+impl From<SignRefusal> for u8 {
+    ghost from_gives = { λ r n. n ≡ number r };
+
+    fn from(refusal: SignRefusal) -> u8 {
+        refusal as u8
     }
 }
 
@@ -36,9 +32,6 @@ pub trait Scheme {
     ghost good: { Self → ℕ → List ℕ → ℕ → Bool };
 
     ghost spent: { Self → Bool };
-
-    // Only a board 0 to 7 and words of 1 to 64 bytes ever have a good tag.
-    ghost bounded: { Bounded good };
 
     // Whether the tag is good for the board and the words.
     fn check(&self, board: u8, words: &[u8], tag: u64) -> bool
@@ -51,13 +44,16 @@ pub trait Scheme {
     // A tag that is good for the board and the words from now on, or a refusal that changes nothing.
     fn sign(&mut self, board: u8, words: &[u8]) -> Result<u64, SignRefusal>
         ensures { Signing good spent self.old self.new board words.now result };
+
+    // Only a board 0 to 7 and words of 1 to 64 bytes ever have a good tag.
+    ghost bounded: { Bounded good };
 }
 
 // Whether a board and words can be signed at all.
 fn is_signable(board: u8, words: &[u8]) -> bool
     ensures { result ≡ signable board words.now }
 {
-    board < 8 && words.len() > 0 && words.len() <= 64
+    board < 8 && (1..=64).contains(&words.len())
 }
 
 // Refuses for the first reason that holds.
@@ -67,7 +63,7 @@ fn admit(board: u8, words: &[u8], spent: bool) -> Result<(), SignRefusal>
     if board >= 8 {
         return Err(SignRefusal::Board);
     }
-    if words.len() == 0 || words.len() > 64 {
+    if !(1..=64).contains(&words.len()) {
         return Err(SignRefusal::Long);
     }
     if spent {

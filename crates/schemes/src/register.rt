@@ -8,6 +8,7 @@ ghost use Rattle.schemes.specs.Registers.{blank_entry, has_words, holds, good_in
 use super::{Scheme, SignRefusal, admit, is_signable};
 
 // What a row holds: a board, and the first bytes of `words`, as many as `size` says.
+// Nothing is allocated, so the words lie in an array with their number beside.
 #[derive(Clone, Copy)]
 pub struct Entry {
     board: u8,
@@ -33,9 +34,7 @@ impl Entry {
         ensures { holds result board words.now ≡ true }
     {
         let mut held = [0; 64];
-        for (i, b) in words.iter().enumerate() {
-            held[i] = *b;
-        }
+        held[..words.len()].copy_from_slice(words);
         Entry {
             board,
             size: words.len() as u8,
@@ -47,8 +46,9 @@ impl Entry {
     fn has(&self, words: &[u8]) -> bool
         ensures { result ≡ has_words self.now words.now }
     {
-        let size = self.size as usize;
-        size <= 64 && &self.words[0..size] == words
+        self.words
+            .get(..usize::from(self.size))
+            .is_some_and(|held| held == words)
     }
 
     // Whether the entry is that of the board and the words.
@@ -76,25 +76,6 @@ impl<'a> Register<'a> {
     {
         Register { rows, used: 0 }
     }
-
-    // Uses the lowest unused row: the register's own account, row by row.
-    fn write(&mut self, board: u8, words: &[u8]) -> Result<u64, SignRefusal>
-        ensures { Entering self.old self.new board words.now result }
-    {
-        admit(board, words, self.is_spent())?;
-        let at = self.used;
-        self.rows[at] = Entry::of(board, words);
-        self.used = at + 1;
-        Ok(at as u64)
-    }
-
-    // The same call, with what the new row means for the scheme (proofs/Rows.antt).
-    fn enter(&mut self, board: u8, words: &[u8]) -> Result<u64, SignRefusal>
-        ensures meaning { Signing good_in spent_in self.old self.new board words.now result }
-        ensures row { Entering self.old self.new board words.now result }
-    {
-        self.write(board, words)
-    }
 }
 
 impl Scheme for Register<'_> {
@@ -105,22 +86,26 @@ impl Scheme for Register<'_> {
     ghost bounded = { register_bounded };
 
     fn check(&self, board: u8, words: &[u8], tag: u64) -> bool {
-        let rows = &*self.rows;
+        // A usize has 64 bits, so `try_from` would only add an arm that cannot be reached.
         let at = tag as usize;
         is_signable(board, words)
             && at < self.used
-            && at < rows.len()
-            && rows[at].is_of(board, words)
+            && self.rows.get(at).is_some_and(|row| row.is_of(board, words))
     }
 
     fn is_spent(&self) -> bool {
         self.rows.len() <= self.used
     }
 
+    // Uses the lowest unused row; what the new row means for the scheme: proofs/Rows.antt.
     fn sign(&mut self, board: u8, words: &[u8]) -> Result<u64, SignRefusal>
         ensures meaning { Signing good_in spent_in self.old self.new board words.now result }
         ensures row { Entering self.old self.new board words.now result }
     {
-        self.enter(board, words)
+        admit(board, words, self.is_spent())?;
+        let at = self.used;
+        self.rows[at] = Entry::of(board, words);
+        self.used = at + 1;
+        Ok(at as u64)
     }
 }

@@ -1,14 +1,19 @@
 -- What stands at the place of a board in a list by rising board number: what the list says of that board.
 -- For tags in one row of bytes, eight a board, and for replies, heard or stored.
-use Rattle.std.proofs.Common.{◌≡◌, ℕ, zero, suc, ◌+◌, ◌*◌, ◌/◌, ◌%◌, ◌<◌, ◌≤◌, Bool, true, false, cond, List, [], ◌∷◌, ◌++◌, length, get_or, take, drop, sym, refl, ap, ◌∙◌, ⊎_elim, arith, length-append, drop-drop}
+use Rattle.std.proofs.Common.{◌≡◌, ℕ, zero, suc, ◌+◌, ◌*◌, ◌/◌, ◌%◌, ◌<◌, ◌≤◌, Bool, true, false, cond, Option, Some, None, inl, inr, List, [], ◌∷◌, ◌++◌, length, get_or, take, drop, sym, refl, ap, ◌∙◌, ⊎_elim, arith, length-append, drop-drop}
+use denote.Ref.{Bor}
 use Rattle.std.proofs.lemmas.List.{get_or_append_left, get_or_at, get_or_past, take_at, take_all, drop_at, drop_all}
-use Rattle.std.proofs.lemmas.Bool.{cases_lt, cases_eq, eqb-true}
+use Rattle.std.proofs.lemmas.Bool.{cases_lt, cases_eq, cases_Bool, eqb-true}
 use Rattle.boards.specs.Boards.{member, one, only, place, size, tally}
 use Rattle.boards.proofs.Members.{member_below, member_only}
 use Rattle.boards.proofs.Counts.{tally_rises}
 use Rattle.boards.proofs.Sets.{size_only, place_below}
-use Rattle.wire.specs.Messages.{Reply, listed, joined, tag_bytes, stored_tags, reply_at, replies_in, heard_replies}
+use Rattle.wire.specs.Messages.{Reply, listed, joined, tag_bytes, tags_of, stored_tags, reply_at, replies_in, heard_replies}
+use Rattle.wire.specs.declared.message.Tags.{Tags}
+use Rattle.wire.specs.declared.message.Tags.TheVariants.{Heard, Stored, Fresh}
 use Rattle.wire.specs.Acts.{no_reply, tag_at}
+use Rattle.signed.specs.Signed.{TagIs}
+use Rattle.signed.specs.Places.{Eight}
 
 long_cond : {X : Type 0} (b : Bool) (x : X) → length (cond b (x ∷ []) []) ≡ one b
 long_cond true x = refl
@@ -62,31 +67,52 @@ stored_at s ts b e =
     let h = member_below s b e in
     eight_at (listed (member s) f 8) (tags_long (λ k. get_or ts k 0) (member s) 8) (tally (member s) b) (omega (arith, length_listed (member s) f 8, tally_rises (member s) b 8 h e)) ∙ listed_at (member s) f 8 b [] h e
 
-pub place_alone : (b : ℕ) → b < 8 → member (only b) b ≡ true → place (only b) b ≡ 0
+place_alone : (b : ℕ) → b < 8 → member (only b) b ≡ true → place (only b) b ≡ 0
 place_alone b h e = omega (arith, place_below (only b) b e, size_only b h)
-
--- A set of one board that has a member has that board.
-pub speaks_alone : (b k : ℕ) → member (only b) k ≡ true → member (only b) b ≡ true
-speaks_alone b k e =
-    let same : k ≡ b = eqb-true k b (sym (member_only b k (member_below (only b) k e)) ∙ e) in
-    ap (member (only b)) (sym same) ∙ e
 
 length_joined : (xs : List (List ℕ)) → ((i : ℕ) → i < length xs → length (get_or xs i []) ≡ 8) → length (joined xs) ≡ 8 * length xs
 unfolding joined
 length_joined [] a = refl
 length_joined (x ∷ xs) a = length-append x (joined xs) ∙ omega (arith, a 0 (omega arith), length_joined xs (λ k l. a (suc k) (omega arith)))
 
--- The stored tag of a board that stands alone.
-pub stored_alone : (ts : List ℕ) (b : ℕ) → member (only b) b ≡ true → stored_tags (only b) ts ≡ tag_bytes (get_or ts b 0)
-unfolding size
-stored_alone ts b e =
-    let h = member_below (only b) b e in
-    let f : ℕ → List ℕ = λ k. tag_bytes (get_or ts k 0) in
-    let long : length (stored_tags (only b) ts) ≡ 8 =
-    length_joined (listed (member (only b)) f 8) (tags_long (λ k. get_or ts k 0) (member (only b)) 8) ∙ omega (arith, length_listed (member (only b)) f 8, size_only b h) in
-    sym (take_all 8 (stored_tags (only b) ts) (omega (arith, long))) ∙ ap (λ i. tag_at i (stored_tags (only b) ts)) (sym (place_alone b h e)) ∙ stored_at (only b) ts b e
+-- A set of one board has that board alone.
+only_one : (s b : ℕ) → member (only s) b ≡ true → b ≡ s
+only_one s b e = eqb-true b s (sym (member_only s b (member_below (only s) b e)) ∙ e)
 
-pub length_replies_in : (n : ℕ) (xs : List ℕ) → length (replies_in n xs) ≡ n
+-- The bytes of a board that stands alone are its tag, if they are eight.
+first_alone : (s b : ℕ) (t : List ℕ) → member (only s) b ≡ true → length t ≡ 8 → tag_at (place (only s) b) t ≡ t
+first_alone s b t e long =
+    let same = only_one s b e in
+    let below = member_below (only s) b e in
+    ap (λ k. tag_at k t) (ap (place (only s)) same ∙ place_alone s (omega arith) (ap (member (only s)) (sym same) ∙ e)) ∙ take_all 8 t (omega arith)
+
+-- The tag of a board that stands alone is the whole of its bytes.
+pub whole_alone : (s b : ℕ) (t : List ℕ) (r : Option ℕ) → (member (only s) b ≡ true → length t ≡ 8) → TagIs (only s) b (tag_at (place (only s) b) t) r → TagIs (only s) b t r
+whole_alone s b t (Some x) long h = (h.0, h.1 ∙ first_alone s b t h.0 (long h.0))
+whole_alone s b t None long h =
+    ⊎_elim
+    (λ e. ⊎_elim inl (λ ne. absurd (ne (ap length (first_alone s b t e (long e)) ∙ long e))) h)
+    inl
+    (cases_Bool (member (only s) b))
+
+-- A tag that is not heard has eight bytes.
+pub alone_long : (s b : ℕ) (t : Tags) → ((x : Bor (List ℕ)) → t ≡ Heard x → ⊥) → member (only s) b ≡ true → length (tags_of (only s) t) ≡ 8
+unfolding size
+alone_long s b (Heard x) n e = absurd (n x refl)
+alone_long s b (Fresh x) n e = refl
+alone_long s b (Stored ts) n e =
+    let same = only_one s b e in
+    let below = member_below (only s) b e in
+    let f : ℕ → List ℕ = λ k. tag_bytes (get_or ts.now k 0) in
+    length_joined (listed (member (only s)) f 8) (tags_long (λ k. get_or ts.now k 0) (member (only s)) 8)
+    ∙ omega (arith, length_listed (member (only s)) f 8, size_only s (omega arith))
+
+-- A tag of eight bytes of a board that is in the set.
+pub had : (s b : ℕ) (t u : List ℕ) (r : Option ℕ) → member s b ≡ true → t ≡ u → Eight t r → TagIs s b u r
+had s b t u (Some x) i e h = (i, h ∙ e)
+had s b t u None i e h = inr (λ k. h (ap length e ∙ k))
+
+length_replies_in : (n : ℕ) (xs : List ℕ) → length (replies_in n xs) ≡ n
 unfolding replies_in
 length_replies_in zero xs = refl
 length_replies_in (suc n) xs = length-append (replies_in n xs) (reply_at xs (9 * n) ∷ []) ∙ omega (arith, length_replies_in n xs)

@@ -1,53 +1,49 @@
 // One reply among those of a set: its entry and its tag; and the entry of the lowest earlier rank of all.
 // Where the replies lie, heard or stored, makes no difference to the answer.
-ghost use Rattle.signed.specs.Places.{StandsAt, EntryByte, EntryAmong, ReplyTagAmong, LowerOf, LowestHeard, LowestStored, LowestAmong};
+ghost use Rattle.std.specs.Prelude.{◌≡◌, ℕ, List, slice_index_or};
+ghost use Rattle.boards.specs.Boards.{place};
+ghost use Rattle.wire.specs.Messages.{reply_at, replies_by, heard_replies, stored_replies};
+ghost use Rattle.wire.specs.Acts.{no_reply, lower, lowest};
+ghost use Rattle.signed.specs.Signed.{TagIs};
+ghost use Rattle.signed.specs.Places.{EntryAmong};
 
 use crate::tags::eight;
 use boards::Set;
-use wire::message::{Entries, Entry};
+use wire::message::{Entries, Entry, Replies};
 
-// The entry byte at a place, the earlier rank on top; an entry of nothing past the end.
+// The entry byte at a place; no entry past the end.
 fn entry_at(bytes: &[u8], at: usize) -> Entry
-    ensures { EntryByte bytes.now at result }
+    ensures { result ≡ (reply_at bytes.now at).entry }
 {
-    if at < bytes.len() {
-        Entry {
-            earlier: bytes[at] / 16,
-            change: bytes[at] % 8,
-        }
-    } else {
-        Entry {
-            earlier: 0,
-            change: 0,
-        }
-    }
+    bytes.get(at).map_or(Entry::NONE, |b| Entry::from(*b))
 }
 
-// The entry of a board of the set, which has `place` boards before it.
-pub(crate) fn entry_of(set: Set, entries: Entries<'_>, board: u8, place: u8) -> Entry
-    requires { StandsAt set.bits board place }
-    ensures { EntryAmong set entries.entry place result }
+// The board's entry among the replies of a set; none for a board that is not in it.
+pub(crate) fn entry_of(replies: Replies<'_>, board: u8) -> Option<Entry>
+    ensures { EntryAmong replies.entry board result }
 {
-    match entries {
-        Entries::Heard(bytes) => entry_at(bytes, 9 * place as usize),
-        Entries::Stored { entries, .. } => entries[board as usize],
-    }
+    let place = replies.set.rank(board)? - 1;
+    Some(match replies.entries {
+        Entries::Heard(bytes) => entry_at(bytes, 9 * usize::from(place)),
+        Entries::Stored { entries, .. } => entries[usize::from(board)],
+    })
 }
 
-// The tag of a board of the set, which has `place` boards before it.
-pub(crate) fn reply_tag(set: Set, entries: Entries<'_>, board: u8, place: u8) -> Option<u64>
-    requires { StandsAt set.bits board place }
-    ensures { ReplyTagAmong set entries.entry place result }
+// The board's tag among the replies of a set; none for a board that is not in it, or whose tag is not eight bytes.
+pub(crate) fn reply_tag(replies: Replies<'_>, board: u8) -> Option<u64>
+    ensures { TagIs replies.entry.set.bits board
+        (slice_index_or (replies_by replies.entry) (place replies.entry.set.bits board) no_reply).tag result }
 {
-    match entries {
-        Entries::Heard(bytes) => eight(bytes, 9 * place as usize + 1),
-        Entries::Stored { tags, .. } => Some(tags[board as usize]),
+    let place = replies.set.rank(board)? - 1;
+    match replies.entries {
+        Entries::Heard(bytes) => eight(bytes, 9 * usize::from(place) + 1),
+        Entries::Stored { tags, .. } => Some(tags[usize::from(board)]),
     }
 }
 
 // Of two entries the one with the lower earlier rank, 0 never counted; the first where they are equal.
 fn lower(a: Entry, b: Entry) -> Entry
-    ensures { LowerOf a b result }
+    ensures { result ≡ lower a b }
 {
     if b.earlier == 0 || (a.earlier != 0 && a.earlier <= b.earlier) {
         a
@@ -58,27 +54,17 @@ fn lower(a: Entry, b: Entry) -> Entry
 
 // The entry of the lowest earlier rank among heard replies.
 fn lowest_heard(bytes: &[u8]) -> Entry
-    ensures { LowestHeard bytes.now result }
+    ensures { result ≡ lowest (heard_replies bytes.now) }
 {
-    let mut found = Entry {
-        earlier: 0,
-        change: 0,
-    };
-    let replies = bytes.len() / 9 + (bytes.len() % 9 + 8) / 9;
-    for i in (0..replies).rev() {
-        found = lower(entry_at(bytes, 9 * i), found);
-    }
-    found
+    bytes.chunks(9).rev().fold(Entry::NONE, |found, reply| lower(entry_at(reply, 0), found))
 }
 
 // The entry of the lowest earlier rank among the stored ones of a set.
 fn lowest_stored(set: Set, entries: &[Entry; 8]) -> Entry
-    ensures { LowestStored set entries.now result }
+    ensures { (ts : List ℕ) → result ≡ lowest (stored_replies set.bits entries.now ts) }
 {
-    let mut found = Entry {
-        earlier: 0,
-        change: 0,
-    };
+    // In a chain the bound of the index would have to be shown once more, by a closure that knows nothing of the filter before it.
+    let mut found = Entry::NONE;
     for board in (0..8u8).rev() {
         if set.has(board) {
             found = lower(entries[board as usize], found);
@@ -88,11 +74,11 @@ fn lowest_stored(set: Set, entries: &[Entry; 8]) -> Entry
 }
 
 // The entry of the lowest earlier rank among the replies of a set.
-pub(crate) fn lowest(set: Set, entries: Entries<'_>) -> Entry
-    ensures { LowestAmong set entries.entry result }
+pub(crate) fn lowest(replies: Replies<'_>) -> Entry
+    ensures { result ≡ lowest (replies_by replies.entry) }
 {
-    match entries {
+    match replies.entries {
         Entries::Heard(bytes) => lowest_heard(bytes),
-        Entries::Stored { entries, .. } => lowest_stored(set, entries),
+        Entries::Stored { entries, .. } => lowest_stored(replies.set, entries),
     }
 }

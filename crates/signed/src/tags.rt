@@ -1,49 +1,52 @@
 // One tag among those of a set, as a number.
 // Where the tags lie, heard, stored or fresh, makes no difference to the answer.
-ghost use Rattle.std.specs.Prelude.{◌≡◌, ◌*◌, true, take, drop};
-ghost use Rattle.boards.specs.Boards.{member, only, place};
-ghost use Rattle.wire.specs.Messages.{tags_of};
-ghost use Rattle.signed.specs.Places.{Eight, StandsAt, TagAmong};
+ghost use Rattle.std.specs.Prelude.{◌≡◌, take, drop};
+ghost use Rattle.boards.specs.Boards.{only, place};
+ghost use Rattle.wire.specs.Messages.{tags_by, tags_of};
+ghost use Rattle.wire.specs.Acts.{tag_at};
+ghost use Rattle.signed.specs.Signed.{TagIs};
+ghost use Rattle.signed.specs.Places.{Eight};
 
 use boards::Set;
-use wire::message::Tags;
+use wire::message::{Tagged, Tags};
 
 // The eight bytes that begin at a place, as one number; none if there are fewer.
 pub(crate) fn eight(bytes: &[u8], at: usize) -> Option<u64>
     ensures { Eight (take 8 (drop at bytes.now)) result }
 {
-    if bytes.len() < 8 || at > bytes.len() - 8 {
-        return None;
-    }
-    let t = &bytes[at..at + 8];
-    Some(u64::from_be_bytes([t[0], t[1], t[2], t[3], t[4], t[5], t[6], t[7]]))
+    let tag = bytes.get(at..)?.first_chunk::<8>()?;
+    Some(u64::from_be_bytes(*tag))
 }
 
-// The tag of a board of the set, which has `place` boards before it.
-pub(crate) fn tag_of(set: Set, tags: Tags<'_>, board: u8, place: u8) -> Option<u64>
-    requires { StandsAt set.bits board place }
-    ensures { TagAmong set tags.entry place result }
+// The board's tag among those of a set; none for a board that is not in it, or whose tag is not eight bytes.
+pub(crate) fn tag_by(by: Tagged<'_>, board: u8) -> Option<u64>
+    ensures { TagIs by.entry.set.bits board (tag_at (place by.entry.set.bits board) (tags_by by.entry)) result }
 {
-    match tags {
-        Tags::Heard(bytes) => eight(bytes, 8 * place as usize),
-        Tags::Stored(tags) => Some(tags[board as usize]),
-        Tags::Fresh(tag) => { if place == 0 { Some(tag) } else { None } }
+    let place = by.set.rank(board)? - 1;
+    match by.tags {
+        Tags::Heard(bytes) => eight(bytes, 8 * usize::from(place)),
+        Tags::Stored(tags) => Some(tags[usize::from(board)]),
+        Tags::Fresh(tag) => (place == 0).then_some(tag),
     }
 }
 
-// The tag of a speaker, which stands alone.
-pub(crate) fn lone_tag(tags: Tags<'_>, speaker: u8) -> Option<u64>
-    requires { member (only speaker) speaker ≡ true }
-    ensures { Eight (tags_of (only speaker) tags.entry) result }
+// The board's tag where it is the whole of a lone speaker's bytes.
+pub(crate) fn whole_tag(speaker: u8, tags: Tags<'_>, board: u8) -> Option<u64>
+    ensures { TagIs (only speaker) board (tags_of (only speaker) tags.entry) result }
 {
     match tags {
-        Tags::Heard(bytes) => {
-            if bytes.len() != 8 {
-                return None;
-            }
-            eight(bytes, 0)
-        }
-        Tags::Stored(tags) => Some(tags[speaker as usize]),
-        Tags::Fresh(tag) => Some(tag),
+        Tags::Heard(bytes) if bytes.len() != 8 => None,
+        _ => tag_by(alone(speaker, tags), board),
+    }
+}
+
+// A lone speaker with its tag.
+pub(crate) fn alone<'a>(speaker: u8, tags: Tags<'a>) -> Tagged<'a>
+    ensures set { result.set.bits ≡ only speaker }
+    ensures tags { result.tags ≡ tags.entry }
+{
+    Tagged {
+        set: Set::only(speaker),
+        tags,
     }
 }

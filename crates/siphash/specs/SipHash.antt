@@ -1,6 +1,6 @@
--- SipHash-2-4 (Aumasson and Bernstein, 2012) over lists of bytes: key and message to a number of 64 bits.
+-- SipHash-2-4 over lists of bytes: key and message to a number of 64 bits.
 -- Two rounds for each word of the message and four to finish, on a state of four words.
-use Rattle.std.specs.Prelude.{ℕ, ◌+◌, ◌-◌, ◌*◌, ◌/◌, ◌%◌, ◌^◌, List, [], ◌∷◌, ◌++◌, map, length, take, drop, bit_or, bit_xor}
+use Rattle.std.specs.Prelude.{ℕ, ◌+◌, ◌-◌, ◌*◌, ◌/◌, ◌%◌, ◌^◌, List, [], ◌∷◌, ◌++◌, fold, map, length, take, drop, bit_or, bit_xor}
 use Rattle.std.specs.Simd.{first_chunks}
 use Rattle.siphash.specs.declared.State.{State}
 
@@ -49,8 +49,7 @@ compress v m =
 
 -- Words taken in one after another.
 unfoldable pub compressed : State → List ℕ → State
-compressed v [] = v
-compressed v (m ∷ ms) = compressed (compress v m) ms
+compressed v ms = fold compress v ms
 
 -- The result: 0xff into v2, four rounds, and all four words together.
 unfoldable pub finished : State → ℕ

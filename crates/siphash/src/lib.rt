@@ -84,7 +84,14 @@ fn key_words(key: &[u8; 16]) -> (u64, u64)
     ensures { (result.0 ≡ little (take 8 key.now)) × (result.1 ≡ little (drop 8 key.now)) }
 {
     let (halves, _) = key.as_chunks::<8>();
-    (u64::from_le_bytes(halves[0]), u64::from_le_bytes(halves[1]))
+    (word(&halves[0]), word(&halves[1]))
+}
+
+// Eight bytes as a number.
+fn word(bytes: &[u8; 8]) -> u64
+    ensures { result ≡ little bytes.now }
+{
+    u64::from_le_bytes(*bytes)
 }
 
 // At most seven bytes as a number.
@@ -93,10 +100,8 @@ fn number(rest: &[u8]) -> u64
     ensures { (result ≡ little rest.now) × (result < 2 ^ 56) }
 {
     let mut block = [0; 8];
-    for (i, b) in rest.iter().enumerate() {
-        block[i] = *b;
-    }
-    u64::from_le_bytes(block)
+    block[..rest.len()].copy_from_slice(rest);
+    word(&block)
 }
 
 // The word that ends a message of a size: the bytes past its whole words, and the size in the top byte.
@@ -113,11 +118,10 @@ fn absorb(start: State, message: &[u8]) -> State
     ensures { result ≡ compressed start (parsed message.now) }
 {
     let (blocks, rest) = message.as_chunks::<8>();
-    let mut state = start;
-    for block in blocks {
-        state = state.compress(u64::from_le_bytes(*block));
-    }
-    state.compress(last_word(rest, message.len()))
+    blocks
+        .iter()
+        .fold(start, |state, block| state.compress(word(block)))
+        .compress(last_word(rest, message.len()))
 }
 
 // The SipHash-2-4 of the words under the key.
