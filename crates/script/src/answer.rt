@@ -7,7 +7,7 @@ ghost use Rattle.script.specs.Outcomes.{reason_text, refusal_text, answer_text, 
 use crate::audit::Audit;
 use crate::line::Line;
 use crate::tally::Tally;
-use codes::{Refusal, layer_name};
+use codes::Refusal;
 use std::alloc::AllocError;
 use wire::message::Message;
 
@@ -54,13 +54,13 @@ impl Line {
         ensures { Wrote self (refusal_text refusal) result }
     {
         let line = self
-            .decimal(refusal.number() as u64)
+            .decimal(u8::from(refusal) as u64)
             .byte(b' ')
             .text(refusal.name());
         match refusal.fault() {
             Some(fault) => line
                 .byte(b' ')
-                .text(layer_name(fault.layer))
+                .text(fault.layer.name())
                 .byte(b' ')
                 .decimal(fault.place as u64),
             None => line,

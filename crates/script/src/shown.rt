@@ -2,13 +2,13 @@
 // The texts: specs/Shown.antt, of what the message means; where its bytes lie makes no difference.
 ghost use Rattle.std.specs.Prelude.{◌≡◌};
 ghost use Rattle.boards.specs.Boards.{only};
-ghost use Rattle.wire.specs.Messages.{tags_of, replies_of, meaning};
+ghost use Rattle.wire.specs.Messages.{tags_of, tags_by, replies_by, meaning, sort_name};
 ghost use Rattle.script.specs.Lines.{Wrote};
-ghost use Rattle.script.specs.Shown.{opening, ranked, graded, own_tag, spoken, reply_text, reply_of, gathered, proof_text, replies_text, content_text, sort_name, shown};
+ghost use Rattle.script.specs.Shown.{opening, ranked, graded, own_tag, spoken, reply_text, reply_of, gathered, proof_text, replies_text, content_text, shown};
 
 use crate::line::Line;
 use boards::Set;
-use wire::message::{Content, Entries, Entry, Message, Sort, Tags};
+use wire::message::{Content, Entry, Message, Replies, Sort, Tagged, Tags};
 
 // The name of a sort.
 fn sort_name(sort: Sort) -> &'static str
@@ -67,32 +67,32 @@ impl Line {
     }
 
     // A set and the tags of its boards.
-    fn gathered(self, set: Set, tags: Tags<'_>) -> Line
-        ensures { Wrote self (gathered set.bits (tags_of set.bits tags.entry)) result }
+    fn gathered(self, by: Tagged<'_>) -> Line
+        ensures { Wrote self (gathered by.entry.set.bits (tags_by by.entry)) result }
     {
-        self.name("set").boards(set).name("tags").tags(set, tags)
+        self.name("set").boards(by.set).name("tags").tags(by.set, by.tags)
     }
 
     // A proof: the boards that acknowledged, and their tags.
-    fn proof(self, set: Set, acks: Tags<'_>) -> Line
-        ensures { Wrote self (proof_text set.bits (tags_of set.bits acks.entry)) result }
+    fn proof(self, by: Tagged<'_>) -> Line
+        ensures { Wrote self (proof_text by.entry.set.bits (tags_by by.entry)) result }
     {
         self.name("proof")
-            .boards(set)
+            .boards(by.set)
             .name("prooftags")
-            .tags(set, acks)
+            .tags(by.set, by.tags)
     }
 
     // A set with the entries of its boards and their tags.
-    fn replies(self, set: Set, entries: Entries<'_>) -> Line
-        ensures { Wrote self (replies_text set.bits (replies_of set.bits entries.entry)) result }
+    fn replies(self, by: Replies<'_>) -> Line
+        ensures { Wrote self (replies_text by.entry.set.bits (replies_by by.entry)) result }
     {
         self.name("set")
-            .boards(set)
+            .boards(by.set)
             .name("entries")
-            .entries(set, entries)
+            .entries(by.set, by.entries)
             .name("tags")
-            .entry_tags(set, entries)
+            .entry_tags(by.set, by.entries)
     }
 
     // What a sender's message carries.
@@ -122,12 +122,11 @@ impl Line {
             Message::Suggest {
                 view,
                 change,
-                set,
-                tags,
+                by,
             } => self
                 .opening("suggest", view)
                 .number("change", change)
-                .gathered(set, tags),
+                .gathered(by),
             Message::Ack {
                 view,
                 rank,
@@ -139,11 +138,10 @@ impl Line {
                 view,
                 rank,
                 change,
-                set,
-                tags,
+                by,
             } => self
                 .graded("proposal", view, rank, change)
-                .gathered(set, tags),
+                .gathered(by),
             Message::Ready {
                 view,
                 rank,
@@ -157,11 +155,10 @@ impl Line {
                 view,
                 rank,
                 change,
-                set,
-                tags,
+                by,
             } => self
                 .graded("change", view, rank, change)
-                .gathered(set, tags),
+                .gathered(by),
             Message::Deputy {
                 view,
                 rank,
@@ -171,9 +168,8 @@ impl Line {
             Message::Query {
                 view,
                 rank,
-                set,
-                tags,
-            } => self.ranked("query", view, rank).gathered(set, tags),
+                by,
+            } => self.ranked("query", view, rank).gathered(by),
             Message::Last {
                 view,
                 rank,
@@ -181,22 +177,19 @@ impl Line {
                 entry,
                 tag,
                 proof,
-                acks,
             } => self
                 .ranked("last", view, rank)
                 .reply(speaker, entry, tag)
-                .proof(proof, acks),
+                .proof(proof),
             Message::SuggestLast {
                 view,
                 rank,
-                set,
-                entries,
+                replies,
                 proof,
-                acks,
             } => self
                 .ranked("suggest-last", view, rank)
-                .replies(set, entries)
-                .proof(proof, acks),
+                .replies(replies)
+                .proof(proof),
             Message::Init { view, content, tag } => self
                 .opening("init", view)
                 .content(content)
@@ -213,12 +206,11 @@ impl Line {
             Message::Commit {
                 view,
                 content,
-                set,
-                tags,
+                by,
             } => self
                 .opening("commit", view)
                 .content(content)
-                .gathered(set, tags),
+                .gathered(by),
         }
     }
 }
