@@ -1,9 +1,7 @@
--- The table of codes: each refusal with its number and its name, and the two layers of a fault with theirs.
+-- The table of codes: each refusal with its number and its name.
 -- Names are bytes of ASCII text.
 use Rattle.std.specs.Prelude.{ℕ, List, Some, None, codes, Option}
 use Rattle.grammar.specs.declared.fault.Fault.{Fault}
-use Rattle.grammar.specs.declared.fault.Layer.{Layer}
-use Rattle.grammar.specs.declared.fault.Layer.TheVariants.{Bytes, Field}
 use Rattle.codes.specs.declared.Refusal.{Refusal}
 use Rattle.codes.specs.declared.Refusal.TheVariants.{Board, Row, Out, Long, Form, View, Member, Change, Turn, Late, Order, Known, Double, Size, Split, Tag, Spent}
 
@@ -44,14 +42,3 @@ name_of r = (code_of r).name
 
 abbrev pub fault_of : Refusal → Option Fault
 fault_of r = (code_of r).fault
-
--- The two layers: bytes that are missing or left over, and a field whose value is not allowed.
-abbrev pub layer_of : Layer → Code
-layer_of Bytes = code 0 (codes "bytes")
-layer_of Field = code 1 (codes "field")
-
-abbrev pub layer_number_of : Layer → ℕ
-layer_number_of l = (layer_of l).number
-
-abbrev pub layer_name_of : Layer → List ℕ
-layer_name_of l = (layer_of l).name

@@ -2,13 +2,14 @@
 // Table: docs/REFUSALS.md. What number and name each code has is specs/Codes.antt.
 #![tactic(auto)]
 
-ghost use Rattle.std.specs.Prelude.{◌≡◌};
+ghost use Rattle.std.specs.Prelude.{◌≡◌, Some};
 ghost use Rattle.codes.specs.declared.Refusal.TheVariants.{Form};
-ghost use Rattle.codes.specs.Codes.{number_of, name_of, fault_of, layer_number_of, layer_name_of};
+ghost use Rattle.codes.specs.Codes.{number_of, name_of, fault_of};
 
-use grammar::fault::{Fault, Layer};
+use grammar::fault::Fault;
+use std::fmt;
 
-#[derive(Clone, Copy)]
+#[derive(Clone, Copy, PartialEq, Eq)]
 pub enum Refusal {
     Board,
     Row,
@@ -30,32 +31,7 @@ pub enum Refusal {
 }
 
 impl Refusal {
-    // The number of the code, 1 to 17.
-    pub fn number(self) -> u8
-        ensures { result ≡ number_of self }
-    {
-        match self {
-            Refusal::Board => 1,
-            Refusal::Row => 2,
-            Refusal::Out => 3,
-            Refusal::Long => 4,
-            Refusal::Form(_) => 5,
-            Refusal::View => 6,
-            Refusal::Member => 7,
-            Refusal::Change => 8,
-            Refusal::Turn => 9,
-            Refusal::Late => 10,
-            Refusal::Order => 11,
-            Refusal::Known => 12,
-            Refusal::Double => 13,
-            Refusal::Size => 14,
-            Refusal::Split => 15,
-            Refusal::Tag => 16,
-            Refusal::Spent => 17,
-        }
-    }
-
-    // The name of the code, in capitals.
+    // The name of the code, in capitals, for whoever writes it without a formatter.
     pub fn name(self) -> &'static str
         ensures { result.now ≡ name_of self }
     {
@@ -91,31 +67,46 @@ impl Refusal {
     }
 }
 
+// The number of a code, 1 to 17.
+impl From<Refusal> for u8 {
+    ghost from_gives = { λ r n. n ≡ number_of r };
+
+    fn from(refusal: Refusal) -> u8 {
+        match refusal {
+            Refusal::Board => 1,
+            Refusal::Row => 2,
+            Refusal::Out => 3,
+            Refusal::Long => 4,
+            Refusal::Form(_) => 5,
+            Refusal::View => 6,
+            Refusal::Member => 7,
+            Refusal::Change => 8,
+            Refusal::Turn => 9,
+            Refusal::Late => 10,
+            Refusal::Order => 11,
+            Refusal::Known => 12,
+            Refusal::Double => 13,
+            Refusal::Size => 14,
+            Refusal::Split => 15,
+            Refusal::Tag => 16,
+            Refusal::Spent => 17,
+        }
+    }
+}
+
+impl fmt::Display for Refusal {
+    ghost output = { λ r. Some (name_of r) };
+
+    fn fmt<W: fmt::Write>(&self, f: &mut fmt::Formatter<W>) -> fmt::Result {
+        f.write_str(self.name())
+    }
+}
+
 // Bytes that are no message are refused by FORM, with the fault as it was found.
 impl From<Fault> for Refusal {
     ghost from_gives = { λ f r. r ≡ Form f };
 
     fn from(f: Fault) -> Refusal {
         Refusal::Form(f)
-    }
-}
-
-// The number of the layer that a fault is of.
-pub fn layer_number(layer: Layer) -> u8
-    ensures { result ≡ layer_number_of layer }
-{
-    match layer {
-        Layer::Bytes => 0,
-        Layer::Field => 1,
-    }
-}
-
-// Its name.
-pub fn layer_name(layer: Layer) -> &'static str
-    ensures { result.now ≡ layer_name_of layer }
-{
-    match layer {
-        Layer::Bytes => "bytes",
-        Layer::Field => "field",
     }
 }

@@ -1,6 +1,8 @@
 -- One line of a script after another: what is played so far goes on with what is left.
 -- Each line that is played takes a byte of the script at least, and counts one call at most.
-use Rattle.std.proofs.Common.{◌≡◌, ℕ, zero, suc, ◌+◌, ◌<◌, ◌≤◌, true, false, not, eqb, List, [], ◌∷◌, length, drop, IfOk, Some, Ok, Err, Result, sym, refl, ap, ◌∙◌, subst, inr, ⊎_elim, true≢false, arith, Bor, rules}
+use Rattle.std.proofs.Common.{◌≡◌, ℕ, zero, suc, ◌+◌, ◌<◌, ◌≤◌, true, false, not, eqb, List, [], ◌∷◌, length, drop, IfOk, Some, Ok, Err, Result, sym, refl, ap, ◌∙◌, subst, inr, ⊎_elim, true≢false, arith, Bor, Vec, rules}
+use Rattle.std.specs.declared.alloc.AllocError.{AllocError}
+use Rattle.std.specs.declared.alloc.Global.{Global}
 use Rattle.std.proofs.lemmas.List.{length-drop}
 use Rattle.script.specs.declared.answer.Answer.{Answer}
 use Rattle.script.specs.declared.answer.Answer.TheVariants.{Heard, Audited, Kept, Refused, Wrong}
@@ -8,11 +10,12 @@ use Rattle.script.specs.declared.tally.Tally.{Tally}
 use Rattle.script.specs.declared.call.Call.TheVariants.{Keys}
 use Rattle.script.specs.Calls.{Parses}
 use Rattle.script.specs.Hex.{read_hex}
-use Rattle.script.specs.Outcomes.{OneMore}
+use Rattle.script.specs.Lines.{Adds}
+use Rattle.script.specs.Outcomes.{OneMore, tally_line}
 use Rattle.script.specs.Words.{lead, before, past, body}
 use Rattle.flatsat.specs.declared.play.Page.{Page}
 use Rattle.flatsat.specs.Audits.{keys_of}
-use Rattle.flatsat.specs.Plays.{State, state_of, Told, LinePlayed, Plays, Fresh, LinesPlayed}
+use Rattle.flatsat.specs.Plays.{State, state_of, Told, LinePlayed, Plays, Fresh, LinesPlayed, Played}
 
 -- how many answers are counted
 abbrev pub calls : Tally → ℕ
@@ -74,3 +77,8 @@ pub keys_played : {E : Type 0} (line : List ℕ) (s : State) (a : Answer) {bytes
 keys_played line s a (Ok p) ds says kept is read h =
     inr (Ok (Some (Keys ds)), a, says, (kept, h.1 ∙ ap Some (is ∙ ap keys_of read)), h.0)
 keys_played line s a (Err e) ds says kept is read h = tt
+
+-- all lines, and then the count
+pub printed : (script : List ℕ) (page : Page) (r : Result (Vec ℕ Global) AllocError) → LinesPlayed script (state_of page) → Adds page.text (tally_line page.tally) r → IfOk r (λ v. Played script v.items)
+printed script page (Ok v) so h = (state_of page, so, h)
+printed script page (Err e) so h = tt

@@ -18,10 +18,6 @@ key_of b bs = take 16 (drop (16 * b) bs)
 abbrev pub keys_of : List ℕ → List (List ℕ)
 keys_of bs = map (λ b. key_of b bs) (0 ∷ 1 ∷ 2 ∷ 3 ∷ 4 ∷ 5 ∷ 6 ∷ 7 ∷ [])
 
--- Set r has the boards of a but for those of s.
-abbrev pub Others : ℕ → ℕ → ℕ → Type 0
-Others a s r = (b : ℕ) → member r b ≡ (member a b && not (member s b))
-
 -- The boards of a part: the good ones are those whose tags are good, the bad ones all others.
 pub record Judged (part : Part) (good : Good) (m : Msg) (v : Verdict) : Type 0 where
   pub good_ones : (b : ℕ) → member v.good.bits b ≡ (member (boards_in part m) b && good_in part good m b)

@@ -4,9 +4,8 @@ ghost use Rattle.std.specs.Prelude.{◌≡◌, ◌<◌, length};
 ghost use Rattle.schemes.specs.Keys.{good_under, keyed_good};
 ghost use Rattle.wire.specs.Messages.{meaning};
 ghost use Rattle.wire.specs.Format.{Formed};
-ghost use Rattle.flatsat.specs.Audits.{key_of, keys_of, Others, Judged, has_proof, Audits};
+ghost use Rattle.flatsat.specs.Audits.{key_of, keys_of, Judged, has_proof, Audits};
 
-use boards::Set;
 use checks::{Part, boards_of, good_boards};
 use schemes::keyed::Keyed;
 use script::audit::{Audit, Verdict};
@@ -27,6 +26,7 @@ pub(crate) fn keys(bytes: &[u8]) -> [[u8; 16]; 8]
     requires { length bytes.now ≡ 128 }
     ensures { result ≡ keys_of bytes.now }
 {
+    // One by one: the closure of `array::from_fn` would repeat the contract of `key` and say that it leaves the bytes as they are.
     [
         key(bytes, 0),
         key(bytes, 1),
@@ -39,19 +39,6 @@ pub(crate) fn keys(bytes: &[u8]) -> [[u8; 16]; 8]
     ]
 }
 
-// The boards of `all` but for those of `some`.
-fn others(all: Set, some: Set) -> Set
-    ensures { Others all.bits some.bits result.bits }
-{
-    let mut left = all;
-    for board in 0..8 {
-        if some.has(board) {
-            left = left.without(board);
-        }
-    }
-    left
-}
-
 // The boards of a part of a message, by whether their tags are good.
 fn verdict(scheme: &Keyed<'_>, m: &Message<'_>, part: Part) -> Verdict
     ensures { Formed (meaning m.now) → Judged part (good_under scheme.now) (meaning m.now) result }
@@ -59,7 +46,7 @@ fn verdict(scheme: &Keyed<'_>, m: &Message<'_>, part: Part) -> Verdict
     let good = good_boards(scheme, m, part);
     Verdict {
         good,
-        bad: others(boards_of(m, part), good),
+        bad: boards_of(m, part).minus(good),
     }
 }
 
@@ -67,11 +54,7 @@ fn verdict(scheme: &Keyed<'_>, m: &Message<'_>, part: Part) -> Verdict
 fn has_proof(m: &Message<'_>) -> bool
     ensures { result ≡ has_proof (meaning m.now) }
 {
-    match *m {
-        Message::Last { .. } => true,
-        Message::SuggestLast { .. } => true,
-        _ => false,
-    }
+    matches!(*m, Message::Last { .. } | Message::SuggestLast { .. })
 }
 
 // The audit of a message under keys.
@@ -80,6 +63,7 @@ pub(crate) fn audit(keys: &[[u8; 16]; 8], m: &Message<'_>) -> Audit
 {
     let scheme = Keyed::new(keys);
     let signers = verdict(&scheme, m, Part::Signers);
+    // An `if`: `then` would ask for the closure's contract, which is that of `verdict` again.
     let proof = if has_proof(m) {
         Some(verdict(&scheme, m, Part::Proof))
     } else {

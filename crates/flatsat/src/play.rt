@@ -1,14 +1,13 @@
 // Playing a script: each line is parsed, its call made, its answer added to the text with the line's number.
 // What a whole script answers: specs/Plays.antt.
 ghost use Rattle.std.specs.Prelude.{◌≡◌, ◌+◌, ◌^◌, ◌<◌, IfOk};
-ghost use Rattle.script.specs.declared.answer.Answer.TheVariants.{Kept, Wrong};
 ghost use Rattle.script.specs.Words.{body};
 ghost use Rattle.flatsat.specs.Plays.{state_of, Answers, Told, LinePlayed, LinesPlayed, Played};
 
 use crate::audit::{audit, keys};
 use codes::Refusal;
 use reader::read::read;
-use script::answer::{Answer, Reason, answer_line, tally_line};
+use script::answer::{Answer, answer_line, tally_line};
 use script::call::{Call, parse};
 use script::hex::unhex;
 use script::tally::Tally;
@@ -27,28 +26,11 @@ struct Page {
 fn heard<'a>(bytes: &'a [u8], keys: &Option<[[u8; 16]; 8]>) -> Answer<'a>
     ensures { Answers keys.now bytes.now result }
 {
-    let message = match read(bytes) {
-        Ok(message) => message,
-        Err(fault) => return Answer::Refused(Refusal::from(fault)),
-    };
-    match keys {
-        Some(keys) => Answer::Audited(message, audit(keys, &message)),
-        None => Answer::Heard(message),
+    match (read(bytes), keys) {
+        (Ok(message), Some(keys)) => Answer::Audited(message, audit(keys, &message)),
+        (Ok(message), None) => Answer::Heard(message),
+        (Err(fault), _) => Answer::Refused(Refusal::from(fault)),
     }
-}
-
-// What a line that is no call is answered.
-fn wrong(reason: Reason) -> Answer<'static>
-    ensures { result ≡ Wrong reason }
-{
-    Answer::Wrong(reason)
-}
-
-// What keys are answered.
-fn kept() -> Answer<'static>
-    ensures { result ≡ Kept }
-{
-    Answer::Kept
 }
 
 impl Page {
@@ -58,9 +40,8 @@ impl Page {
         ensures { IfOk result (λ p. Told (state_of self) answer.entry (state_of p) × (p.keys ≡ self.keys)) }
     {
         let Page { text, tally, keys } = self;
-        let tally = match tally.count(answer) {
-            Some(tally) => tally,
-            None => unreachable(),
+        let Some(tally) = tally.count(answer) else {
+            unreachable()
         };
         let text = answer_line(text, tally.calls(), answer)?;
         Ok(Page { text, tally, keys })
@@ -81,9 +62,9 @@ impl Page {
             Ok(Some(Call::Keys(digits))) => {
                 let bytes = unhex(Vec::new(heap), digits)?;
                 let keys = Some(keys(&bytes));
-                Page { keys, ..self }.told(kept())
+                Page { keys, ..self }.told(Answer::Kept)
             }
-            Err(reason) => self.told(wrong(reason)),
+            Err(reason) => self.told(Answer::Wrong(reason)),
         }
     }
 }
@@ -111,6 +92,5 @@ pub fn play(heap: Global, script: &[u8]) -> Result<Vec<u8>, AllocError>
     ensures { IfOk result (λ v. Played script.now v.items) }
 {
     let page = lines(heap, script)?;
-    let printed = tally_line(page.text, page.tally)?;
-    Ok(printed)
+    tally_line(page.text, page.tally)
 }

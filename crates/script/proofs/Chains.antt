@@ -1,66 +1,71 @@
 -- One part of a line after another: the texts join, and the room needed adds up.
--- A line as it is has nothing added.
-use Rattle.std.proofs.Common.{◌≡◌, ℕ, ◌+◌, ◌/◌, ◌%◌, ◌<◌, Bool, true, false, eqb, List, [], ◌∷◌, ◌++◌, length, get_or, take, vec_len, vec_capacity, codes, sym, refl, ap, ◌∙◌, subst, true≢false, append_assoc, append-nil, arith, length-append, rules}
-use Rattle.script.specs.declared.line.Line.{Line}
+-- For loops: what stands on the line so far, one text more, and where memory is wanting.
+use Rattle.std.proofs.Common.{◌≡◌, ℕ, ◌+◌, ◌*◌, ◌/◌, ◌%◌, ◌<◌, ◌≤◌, List, [], ◌∷◌, ◌++◌, length, get_or, take, drop, Ok, Err, Result, IsErr, vec_items, vec_len, vec_capacity, sym, refl, true≢false, ap, ◌∙◌, subst, append_assoc, append-nil, arith, length-append, rules}
+use Rattle.std.specs.declared.alloc.AllocError.{AllocError}
 use Rattle.std.proofs.lemmas.List.{take_more}
-use Rattle.script.specs.Lines.{Wrote, held}
-use Rattle.script.specs.Texts.{hex_digit, hex, field, or_dash}
+use Rattle.script.specs.Lines.{Line, Wrote, Adds}
+use Rattle.script.specs.Texts.{hex_digit, hex}
+
+-- line b is line a with a text added
+pub record Has (a : Line) (text : List ℕ) (b : Line) : Type 0 where
+  pub held : vec_items b ≡ vec_items a ++ text
+  pub grows : vec_capacity a ≤ vec_capacity b
 
 -- nothing added
-pub none : (a : Line) → Wrote a [] a
-none a = record { said = λ e. (e, sym (append-nil (held a))); full = λ e f. absurd (true≢false (sym e ∙ f)); grows = omega arith }
+pub has_none : (a : Line) → Has a [] a
+has_none a = record { held = sym (append-nil (vec_items a)); grows = omega arith }
 
--- a text, and then another
-pub then : {a b c : Line} {xs ys : List ℕ} → Wrote a xs b → Wrote b ys c → Wrote a (xs ++ ys) c
-then {a} {b} {c} {xs} {ys} p q =
-    record {
-      said = λ e.
-          let h = q.said e in
-          let k = p.said h.0 in
-          (k.0, h.1 ∙ ap (λ l. l ++ ys) k.1 ∙ append_assoc (held a) xs ys);
-      full = λ e f.
-          let all : length (xs ++ ys) ≡ length xs + length ys = length-append xs ys in
-          let Short : Type 0 = vec_capacity a.bytes < vec_len a.bytes + length (xs ++ ys) in
-          let pick : (t : Bool) → b.lost ≡ t → Short =
-          λ t. elim t as (λ v. b.lost ≡ v → Short) [
-            | true ↦ λ h. omega (arith, all, p.full h f)
-            | false ↦ λ h.
-                let long : vec_len b.bytes ≡ vec_len a.bytes + length xs =
-                b.bytes.ok.0 ∙ ap length (p.said h).1 ∙ length-append (held a) xs ∙ ap (λ n. n + length xs) (sym a.bytes.ok.0) in
-                omega (arith, all, long, p.grows, q.full e h)
-          ] in
-          pick b.lost refl;
-      grows = omega (arith, p.grows, q.grows);
-    }
+-- one text more
+pub has_more : {a b c : Line} {xs ys all : List ℕ} → Has a xs b → Wrote b ys (Ok tt) c → xs ++ ys ≡ all → Has a all c
+has_more {a} {xs = xs} {ys} h w e =
+    record { held = w.said ∙ ap (λ l. l ++ ys) h.held ∙ append_assoc (vec_items a) xs ys ∙ ap (λ l. vec_items a ++ l) e; grows = omega (arith, h.grows, w.grows) }
+
+-- all of a text
+pub has_all : {a b : Line} {xs all : List ℕ} → Has a xs b → xs ≡ all → Wrote a all (Ok tt) b
+has_all {a} h e = record { said = h.held ∙ ap (λ l. vec_items a ++ l) e; full = tt; grows = h.grows }
 
 -- a text by another name
-pub same : {a b : Line} {xs ys : List ℕ} → Wrote a xs b → xs ≡ ys → Wrote a ys b
-same {a} {b} h e = subst (λ t. Wrote a t b) e h
+pub wrote_as : {a b : Line} {xs ys : List ℕ} {r : Result (Unit {0}) AllocError} → Wrote a xs r b → xs ≡ ys → Wrote a ys r b
+wrote_as {a} {b} {r = r} w e = subst (λ t. Wrote a t r b) e w
 
--- a field's name, and then its value
-pub named : {a b c : Line} {value : List ℕ} (name : List ℕ) → Wrote a (field name []) b → Wrote b value c → Wrote a (field name value) c
-unfolding field
-named {value = value} name h k = same (then h k) (ap (λ t. 32 ∷ t) (append_assoc name (61 ∷ []) value))
+-- a text that was written
+pub has_one : {a b : Line} {xs : List ℕ} → Wrote a xs (Ok tt) b → Has a xs b
+has_one w = record { held = w.said; grows = w.grows }
+
+-- memory is wanting for one text more
+wanting : {a b c : Line} {xs ys : List ℕ} {e : AllocError} (all : List ℕ) → Has a xs b → Wrote b ys (Err e) c → length xs + length ys ≤ length all → vec_capacity a < vec_len a + length all
+wanting {a} {b} {xs = xs} all h w le =
+    let long : vec_len b ≡ vec_len a + length xs = b.ok.0 ∙ ap length h.held ∙ length-append (vec_items a) xs ∙ ap (λ n. n + length xs) (sym a.ok.0) in
+    omega (arith, long, h.grows, w.full, le)
+
+pub not_written : {a b c : Line} {xs ys : List ℕ} {e : AllocError} (all : List ℕ) (r : Result (Unit {0}) AllocError) → Has a xs b → Wrote b ys (Err e) c → length xs + length ys ≤ length all → IsErr r → Wrote a all r c
+not_written all (Ok u) h w le is = absurd (true≢false (sym is))
+not_written all (Err f) h w le is = record { said = tt; full = wanting all h w le; grows = omega (arith, h.grows, w.grows) }
+
+pub adds_not : {a b c : Line} {xs ys : List ℕ} {e : AllocError} (all : List ℕ) (r : Result Line AllocError) → Has a xs b → Wrote b ys (Err e) c → length xs + length ys ≤ length all → IsErr r → Adds a all r
+adds_not all (Ok u) h w le is = absurd (true≢false (sym is))
+adds_not all (Err f) h w le is = wanting all h w le
+
+-- the last text
+pub last : {a b c : Line} {xs ys all : List ℕ} (r : Result (Unit {0}) AllocError) → Has a xs b → Wrote b ys r c → xs ++ ys ≡ all → Wrote a all r c
+last (Ok u) h w e = has_all (has_more h w e) refl
+last {xs = xs} {ys} {all} (Err f) h w e = not_written all (Err f) h w (omega (arith, length-append xs ys, ap length e)) refl
 
 hex_append : (xs ys : List ℕ) → hex (xs ++ ys) ≡ hex xs ++ hex ys
 unfolding hex
 hex_append [] ys = refl
 hex_append (x ∷ xs) ys = ap (λ t. hex_digit (x / 16) ∷ hex_digit (x % 16) ∷ t) (hex_append xs ys)
 
+pub hex_length : (xs : List ℕ) → length (hex xs) ≡ 2 * length xs
+unfolding hex
+hex_length [] = refl
+hex_length (x ∷ xs) = omega (arith, hex_length xs)
+
+pub hex_none : hex [] ≡ []
+unfolding hex
+hex_none = refl
+
 -- one more byte in hexadecimal
 pub hex_more : (xs : List ℕ) (i : ℕ) → i < length xs → hex (take i xs) ++ (hex_digit (get_or xs i 0 / 16) ∷ hex_digit (get_or xs i 0 % 16) ∷ []) ≡ hex (take (i + 1) xs)
 unfolding hex
 hex_more xs i h = sym (ap hex (take_more xs i 0 h) ∙ hex_append (take i xs) (get_or xs i 0 ∷ []))
-
-pub hex_none : (a : Line) (xs : List ℕ) → Wrote a (hex (take 0 xs)) a
-unfolding hex
-hex_none a xs = none a
-
--- no bytes, and some
-pub dash_is : (xs : List ℕ) → true ≡ eqb (length xs) 0 → codes "-" ≡ or_dash xs
-dash_is [] e = refl
-dash_is (x ∷ xs) e = search (rules)
-
-pub hex_is : (xs : List ℕ) → false ≡ eqb (length xs) 0 → hex xs ≡ or_dash xs
-hex_is [] e = search (rules)
-hex_is (x ∷ xs) e = refl

@@ -1,11 +1,10 @@
 -- Lemmas of this crate.
--- Chains: one part of a line after another. Listings: one item of a list after another. Stored: tags by board number.
--- Messages: the kinds. Fronts: the front of bytes that passes a test. Wording: words. Undoing: hexadecimal.
--- Parsing: what is wrong with a line.
+-- Chains: one part of a line after another. Listings: one item of a list after another. Sources: which items lists have. Stored: tags by board number.
+-- Fronts: the front of bytes that passes a test. Wording: words. Undoing: hexadecimal. Parsing: what is wrong with a line.
 mod Chains
 mod Listings
+mod Sources
 mod Stored
-mod Messages
 mod Fronts
 mod Wording
 mod Undoing

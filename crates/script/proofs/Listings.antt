@@ -1,92 +1,85 @@
--- Lists in the making: one more item at the end, and the whole.
--- What a set lists, board by board.
-use Rattle.std.proofs.Common.{◌≡◌, ℕ, ◌+◌, Bool, true, false, cond, List, [], ◌∷◌, ◌++◌, sym, refl, ap, ◌∙◌, subst, true≢false, append_assoc, append-nil, add-one}
-use Rattle.wire.specs.Messages.{listed}
-use Rattle.script.specs.declared.line.Line.{Line}
-use Rattle.script.specs.declared.lists.Listing.{Listing}
-use Rattle.script.specs.Lines.{Wrote}
+-- Lists in the making: the items that an iterator has left, and the text so far.
+-- What comes of a list once all are written.
+use Rattle.std.proofs.Common.{◌≡◌, ℕ, ◌+◌, ◌≤◌, List, [], ◌∷◌, ◌++◌, length, Some, None, Ok, Err, Option, Result, IsErr, sym, refl, ap, ◌∙◌, subst, append_assoc, append-nil, arith, length-append}
+use Rattle.std.specs.Iterator.{AlwaysYields}
+use Rattle.std.specs.declared.alloc.AllocError.{AllocError}
+use Rattle.script.specs.Lines.{Line, Wrote}
 use Rattle.script.specs.Texts.{listing, commas}
-use Rattle.script.specs.Lists.{Lists, Added, Closed, comma_of, some_of}
-use Rattle.script.proofs.Chains.{none, then, same}
+use Rattle.script.proofs.Chains.{Has, has_none, has_more, has_all, not_written, last}
 
-listing_more : (xs : List (List ℕ)) (y : List ℕ) → listing xs ++ (comma_of (some_of xs) ++ y) ≡ listing (xs ++ y ∷ [])
+-- the text of all items but the first
+abbrev pub others : List (List ℕ) → List ℕ
+others [] = []
+others (y ∷ ys) = 44 ∷ (y ++ others ys)
+
+listing_is : (y : List ℕ) (ys : List (List ℕ)) → y ++ others ys ≡ listing (y ∷ ys)
 unfolding listing
-listing_more [] y = refl
-listing_more (x ∷ []) y = refl
-listing_more (x ∷ z ∷ zs) y = append_assoc x (44 ∷ listing (z ∷ zs)) (44 ∷ y) ∙ ap (λ t. x ++ 44 ∷ t) (listing_more (z ∷ zs) y)
+listing_is y [] = append-nil y
+listing_is y (z ∷ zs) = ap (λ t. y ++ 44 ∷ t) (listing_is z zs)
 
-some_push : (xs : List (List ℕ)) (y : List ℕ) → true ≡ some_of (xs ++ y ∷ [])
-some_push [] y = refl
-some_push (x ∷ xs) y = refl
-
--- no item yet
-pub lists_none : (l : Line) → Lists l [] (record { line = l; some = false })
-unfolding listing
-lists_none l = record { wrote = none l; told = refl }
-
--- a comma where one is due, and one more item
-pub lists_more : {m n : Line} {item : List ℕ} (a : Listing) → Wrote a.line (comma_of a.some) m → Wrote m item n → Added a item (record { line = n; some = true })
-lists_more {m} {n} {item} a p q = λ l items h.
-    record {
-      wrote = same (then h.wrote (then p q)) (ap (λ b. listing items ++ (comma_of b ++ item)) h.told ∙ listing_more items item);
-      told = some_push items item;
-    }
-
-some_commas : (items : List (List ℕ)) → true ≡ some_of items → listing items ≡ commas items
+commas_is : (y : List ℕ) (ys : List (List ℕ)) → y ++ others ys ≡ commas (y ∷ ys)
 unfolding commas
-some_commas [] e = absurd (true≢false e)
-some_commas (x ∷ xs) e = refl
+commas_is y ys = listing_is y ys
 
-no_commas : (items : List (List ℕ)) → false ≡ some_of items → listing items ++ 45 ∷ [] ≡ commas items
-unfolding listing commas
-no_commas [] e = refl
-no_commas (x ∷ xs) e = absurd (true≢false (sym e))
+module _ {S A : Type 0} (steps : S → Option A → S → Type 0) (v : A → List ℕ) where
+  -- what an item that came says of the list, and what its end says
+  record Next (t : S) (x : A) (ys : List (List ℕ)) : Type 0 where
+    zs : List (List ℕ)
+    is : ys ≡ v x ∷ zs
+    runs : AlwaysYields steps v t zs
 
--- the whole list
-pub closed_some : (a : Listing) → a.some ≡ true → Closed a a.line
-closed_some a e = λ l items h. same h.wrote (some_commas items (sym e ∙ h.told))
+  next : {s t : S} {x : A} (ys : List (List ℕ)) → AlwaysYields steps v s ys → steps s (Some x) t → Next t x ys
+  next {t = t} {x = x} [] h step = absurd (h x t step)
+  next {t = t} {x = x} (y ∷ ys) h step =
+      let k = h.1 x t step in
+      record { zs = ys; is = ap (λ z. z ∷ ys) (sym k.0); runs = k.1 }
 
-pub closed_none : {b : Line} (a : Listing) → a.some ≡ false → Wrote a.line (45 ∷ []) b → Closed a b
-closed_none a e w = λ l items h. same (then h.wrote w) (no_commas items (sym e ∙ h.told))
+  end : {s t : S} (ys : List (List ℕ)) → AlwaysYields steps v s ys → steps s None t → ys ≡ []
+  end [] h step = refl
+  end {t = t} (y ∷ ys) h step = absurd (h.0 t step)
 
--- items by another name
-pub lists_as : {l : Line} {xs ys : List (List ℕ)} {b : Listing} → Lists l xs b → xs ≡ ys → Lists l ys b
-lists_as {l} {b = b} h e = subst (λ t. Lists l t b) e h
+  -- line b is line a with the text of the items so far, and the others are left
+  pub record Going (a : Line) (all : List ℕ) (s : S) (b : Line) : Type 0 where
+    rest : List (List ℕ)
+    runs : AlwaysYields steps v s rest
+    text : List ℕ
+    has : Has a text b
+    joins : text ++ others rest ≡ all
 
--- the boards below n that pass a test are listed
-module _ (P : ℕ → Bool) (f : ℕ → List ℕ) where
-  abbrev pub Below : Listing → ℕ → Listing → Type 0
-  Below first n b = (l : Line) → Lists l [] first → Lists l (listed P f n) b
+  pub going_none : {s : S} (a : Line) (ys : List (List ℕ)) → AlwaysYields steps v s ys → Going a (others ys) s a
+  going_none a ys h = record { rest = ys; runs = h; text = []; has = has_none a; joins = refl }
 
-  pub below_none : (first : Listing) → Below first 0 first
-  unfolding listed
-  below_none first = λ l h. h
+  more_joins : (text : List ℕ) {all : List ℕ} {rest : List (List ℕ)} (zs : List (List ℕ)) (x : A) → text ++ others rest ≡ all → rest ≡ v x ∷ zs → (text ++ 44 ∷ v x) ++ others zs ≡ all
+  more_joins text zs x e is = append_assoc text (44 ∷ v x) (others zs) ∙ sym (ap (λ r. text ++ others r) is) ∙ e
 
-  -- one more that passes
-  pub below_more : {first b c d : Listing} (n : ℕ) → Below first n b → P n ≡ true → Added b (f n) c → d ≡ c → Below first (n + 1) d
-  unfolding listed
-  below_more {first} {b} {c} {d} n so e add is = λ l h.
-      let grown : listed P f n ++ f n ∷ [] ≡ listed P f (n + 1) = ap (λ t. listed P f n ++ cond t (f n ∷ []) []) (sym e) ∙ ap (listed P f) (sym (add-one n)) in
-      subst (λ x. Lists l (listed P f (n + 1)) x) (sym is) (lists_as (add l (listed P f n) (so l h)) grown)
+  pub going_more : {a b c : Line} {all : List ℕ} {s t : S} {x : A} → Going a all s b → steps s (Some x) t → Wrote b (44 ∷ v x) (Ok tt) c → Going a all t c
+  going_more {x = x} g step w =
+      let n = next g.rest g.runs step in
+      record { rest = n.zs; runs = n.runs; text = g.text ++ 44 ∷ v x; has = has_more g.has w refl; joins = more_joins g.text n.zs x g.joins n.is }
 
-  -- one more that does not
-  pub below_same : {first b d : Listing} (n : ℕ) → Below first n b → P n ≡ false → d ≡ b → Below first (n + 1) d
-  unfolding listed
-  below_same {first} {b} {d} n so e is = λ l h.
-      let kept : listed P f n ≡ listed P f (n + 1) = sym (append-nil (listed P f n)) ∙ ap (λ t. listed P f n ++ cond t (f n ∷ []) []) (sym e) ∙ ap (listed P f) (sym (add-one n)) in
-      subst (λ x. Lists l (listed P f (n + 1)) x) (sym is) (lists_as (so l h) kept)
+  pub going_not : {a b c : Line} {all : List ℕ} {s t : S} {x : A} {e : AllocError} (r : Result (Unit {0}) AllocError) → Going a all s b → steps s (Some x) t → Wrote b (44 ∷ v x) (Err e) c → IsErr r → Wrote a all r c
+  going_not {all = all} {x = x} r g step w is =
+      let n = next g.rest g.runs step in
+      let long = ap length (more_joins g.text n.zs x g.joins n.is) in
+      not_written all r g.has w
+      (omega (arith, long, length-append (g.text ++ 44 ∷ v x) (others n.zs), length-append g.text (44 ∷ v x))) is
 
-  -- all eight
-  pub below_all : {l k : Line} {first b : Listing} (n : ℕ) → Below first n b → n ≡ 8 → Closed b k → Lists l [] first → Wrote l (commas (listed P f 8)) k
-  below_all {l} {k} n so e close h = subst (λ m. Wrote l (commas (listed P f m)) k) e (close l (listed P f n) (so l h))
+  pub going_all : {a b : Line} {all : List ℕ} {s t : S} → Going a all s b → steps s None t → Wrote a all (Ok tt) b
+  going_all g step =
+      has_all g.has (sym (append-nil g.text) ∙ sym (ap (λ r. g.text ++ others r) (end g.rest g.runs step)) ∙ g.joins)
 
--- a list that is made step by step, here as far as step n
-module _ (F : ℕ → List (List ℕ)) where
-  abbrev pub UpTo : Listing → ℕ → Listing → Type 0
-  UpTo first n b = (l : Line) → Lists l [] first → Lists l (F n) b
+  -- the first item, and all others
+  pub record Opens (t : S) (x : A) (ys : List (List ℕ)) : Type 0 where
+    pub zs : List (List ℕ)
+    pub runs : AlwaysYields steps v t zs
+    pub joins : v x ++ others zs ≡ commas ys
 
-  pub up_none : F 0 ≡ [] → (first : Listing) → UpTo first 0 first
-  up_none e first = λ l h. lists_as h (sym e)
+  pub opens : {s u : S} (t : S) {x : A} (ys : List (List ℕ)) → AlwaysYields steps v s ys → steps s (Some x) u → t ≡ u → Opens t x ys
+  opens t {x = x} ys h step is =
+      let n = next ys h step in
+      record { zs = n.zs; runs = subst (λ w. AlwaysYields steps v w n.zs) (sym is) n.runs; joins = commas_is (v x) n.zs ∙ sym (ap commas n.is) }
 
-  pub up_more : {first b c : Listing} {item : List ℕ} (n : ℕ) → UpTo first n b → Added b item c → F n ++ item ∷ [] ≡ F (n + 1) → UpTo first (n + 1) c
-  up_more n so add e = λ l h. lists_as (add l (F n) (so l h)) e
+  -- no item
+  pub dash : {s t : S} (ys : List (List ℕ)) → AlwaysYields steps v s ys → steps s None t → 45 ∷ [] ≡ commas ys
+  unfolding commas
+  dash ys h step = sym (ap commas (end ys h step))

@@ -80,20 +80,3 @@ stored_entries_text s es ts = ap commas (map_listed (λ e. entry_text e.entry) (
 
 pub stored_replied_text : (s : ℕ) (es : List Entry) (ts : List ℕ) → commas (listed (member s) (λ b. hex (tag_bytes (get_or ts b 0))) 8) ≡ replied_text (stored_replies s es ts)
 stored_replied_text s es ts = ap commas (map_listed (λ e. hex e.tag) (member s) (λ b. record { entry = get_or es b none; tag = tag_bytes (get_or ts b 0) }) 8)
-
--- one more heard
-pub tags_in_more : (t : List ℕ) (n : ℕ) → tags_in n t ++ hex (tag_at n t) ∷ [] ≡ tags_in (n + 1) t
-unfolding tags_in
-tags_in_more t n = ap (λ k. tags_in k t) (sym (add-one n))
-
-pub tags_in_none : (t : List ℕ) → tags_in 0 t ≡ []
-unfolding tags_in
-tags_in_none t = refl
-
-pub replies_more : {Y : Type 0} (g : Reply → Y) (xs : List ℕ) (n : ℕ) → map g (replies_in n xs) ++ g (reply_at xs (9 * n)) ∷ [] ≡ map g (replies_in (n + 1) xs)
-unfolding replies_in
-replies_more g xs n = sym (ap (λ k. map g (replies_in k xs)) (add-one n) ∙ map-append g (replies_in n xs) (reply_at xs (9 * n) ∷ []))
-
-pub replies_none : {Y : Type 0} (g : Reply → Y) (xs : List ℕ) → map g (replies_in 0 xs) ≡ []
-unfolding replies_in
-replies_none g xs = refl

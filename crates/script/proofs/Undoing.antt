@@ -1,16 +1,15 @@
 -- Reading hexadecimal: byte by byte, and after writing.
 -- The digits of the sixteen numbers are tried one by one.
-use Rattle.std.proofs.Common.{◌≡◌, ℕ, suc, ◌+◌, ◌*◌, ◌/◌, ◌%◌, ◌<◌, true, cond, ◌&&◌, eqb, List, [], ◌∷◌, ◌++◌, length, get_or, drop, sym, refl, ap, ◌∙◌, subst, append_assoc, append-nil, add-one, arith, drop-cons}
+use Rattle.std.proofs.Common.{◌≡◌, ℕ, suc, ◌+◌, ◌*◌, ◌/◌, ◌%◌, ◌<◌, true, cond, ◌&&◌, eqb, List, [], ◌∷◌, ◌++◌, length, get_or, Ok, Err, Result, IsErr, vec_items, sym, refl, ap, ◌∙◌, append_assoc, append-nil, arith, length-append}
 use Rattle.std.proofs.lemmas.Bool.{eqb-true, and_parts}
-use Rattle.std.proofs.lemmas.List.{length-drop}
+use Rattle.std.specs.declared.alloc.AllocError.{AllocError}
 use Rattle.boards.specs.Boards.{every}
 use Rattle.boards.proofs.Chosen.{every_at}
-use Rattle.script.specs.declared.line.Line.{Line}
-use Rattle.script.specs.Lines.{Wrote}
 use Rattle.script.specs.Texts.{hex, hex_digit}
 use Rattle.script.specs.Words.{lead, hex_sign}
+use Rattle.script.specs.Lines.{Line, Wrote, Adds}
 use Rattle.script.specs.Hex.{nibble, read_hex, Undone}
-use Rattle.script.proofs.Chains.{none, then}
+use Rattle.script.proofs.Chains.{Has, has_none, has_more, adds_not}
 
 -- a digit is read as the number that it was written for
 digit_back : (d : ℕ) → d < 16 → (hex_sign (hex_digit d) ≡ true) × (nibble (hex_digit d) ≡ d)
@@ -39,31 +38,38 @@ undone (b ∷ bs) all =
       λ i. byte i ∷ rest.1 i,
     )
 
--- line b has what the first n digits stand for
-pub record ReadSo (a : Line) (ds : List ℕ) (n : ℕ) (b : Line) : Type 0 where
+-- line b has what the digits before the rest stand for
+pub record ReadSo (a : Line) (ds rest : List ℕ) (b : Line) : Type 0 where
   pub text : List ℕ
-  pub wrote : Wrote a text b
-  pub left : read_hex ds ≡ text ++ read_hex (drop n ds)
+  pub has : Has a text b
+  pub left : read_hex ds ≡ text ++ read_hex rest
 
-pub read_none : (a : Line) (ds : List ℕ) → ReadSo a ds 0 a
-read_none a ds = record { text = []; wrote = none a; left = refl }
+pub read_none : (a : Line) (ds : List ℕ) → ReadSo a ds ds a
+read_none a ds = record { text = []; has = has_none a; left = refl }
+
+read_pair : (p rest : List ℕ) → length p ≡ 2 → read_hex (p ++ rest) ≡ (16 * nibble (get_or p 0 0) + nibble (get_or p 1 0)) ∷ read_hex rest
+unfolding read_hex
+read_pair [] rest e = absurd (omega (arith, e))
+read_pair (x ∷ []) rest e = absurd (omega (arith, e))
+read_pair (x ∷ y ∷ []) rest e = refl
+read_pair (x ∷ y ∷ z ∷ zs) rest e = absurd (omega (arith, e))
+
+left_more : {rest : List ℕ} {x y : ℕ} (ds rest2 text p : List ℕ) → read_hex ds ≡ text ++ read_hex rest → rest ≡ p ++ rest2 → length p ≡ 2 → x ≡ nibble (get_or p 0 0) → y ≡ nibble (get_or p 1 0) → read_hex ds ≡ (text ++ (16 * x + y) ∷ []) ++ read_hex rest2
+left_more {x = x} {y} ds rest2 text p left is two ex ey =
+    left ∙ ap (λ t. text ++ read_hex t) is ∙ ap (λ t. text ++ t) (read_pair p rest2 two ∙ sym (λ i. (16 * ex i + ey i) ∷ read_hex rest2))
+    ∙ sym (append_assoc text ((16 * x + y) ∷ []) (read_hex rest2))
 
 -- two digits more
-pub read_more : {a b c : Line} {ds : List ℕ} {x y : ℕ} (n : ℕ) → ReadSo a ds n b → n + 1 < length ds → x ≡ nibble (get_or ds n 0) → y ≡ nibble (get_or ds (n + 1) 0) → Wrote b ((16 * x + y) ∷ []) c → ReadSo a ds (n + 2) c
-unfolding read_hex
-read_more {ds = ds} {x} {y} n so h ex ey w =
-    let rest = drop (n + 2) ds in
-    let here : drop n ds ≡ get_or ds n 0 ∷ drop (n + 1) ds = drop-cons ds n 0 (omega arith) ∙ ap (λ k. get_or ds n 0 ∷ drop k ds) (sym (add-one n)) in
-    let next : drop (n + 1) ds ≡ get_or ds (n + 1) 0 ∷ rest =
-    let up : suc (n + 1) ≡ n + 2 = omega arith in
-    drop-cons ds (n + 1) 0 h ∙ ap (λ k. get_or ds (n + 1) 0 ∷ drop k ds) up in
-    let two : read_hex (drop n ds) ≡ (16 * x + y) ∷ read_hex rest =
-    ap read_hex (here ∙ ap (λ t. get_or ds n 0 ∷ t) next) ∙ sym (λ i. (16 * ex i + ey i) ∷ read_hex rest) in
-    record {
-      text = so.text ++ (16 * x + y) ∷ [];
-      wrote = then so.wrote w;
-      left = so.left ∙ ap (λ t. so.text ++ t) two ∙ sym (append_assoc so.text ((16 * x + y) ∷ []) (read_hex rest));
-    }
+pub read_more : {a b c : Line} {ds rest : List ℕ} {x y : ℕ} (rest2 p : List ℕ) → ReadSo a ds rest b → rest ≡ p ++ rest2 → length p ≡ 2 → x ≡ nibble (get_or p 0 0) → y ≡ nibble (get_or p 1 0) → Wrote b ((16 * x + y) ∷ []) (Ok tt) c → ReadSo a ds rest2 c
+read_more {ds = ds} {x = x} {y} rest2 p so is two ex ey w =
+    record { text = so.text ++ (16 * x + y) ∷ []; has = has_more so.has w refl; left = left_more ds rest2 so.text p so.left is two ex ey }
+
+-- memory is wanting for one byte more
+pub read_not : {a b c : Line} {rest : List ℕ} {x y : ℕ} {e : AllocError} (ds rest2 p : List ℕ) (r : Result Line AllocError) → ReadSo a ds rest b → rest ≡ p ++ rest2 → length p ≡ 2 → x ≡ nibble (get_or p 0 0) → y ≡ nibble (get_or p 1 0) → Wrote b ((16 * x + y) ∷ []) (Err e) c → IsErr r → Adds a (read_hex ds) r
+read_not {x = x} {y} ds rest2 p r so is two ex ey w err =
+    let long = ap length (left_more ds rest2 so.text p so.left is two ex ey) in
+    adds_not (read_hex ds) r so.has w
+    (omega (arith, long, length-append (so.text ++ (16 * x + y) ∷ []) (read_hex rest2), length-append so.text ((16 * x + y) ∷ []))) err
 
 read_short : (ds : List ℕ) → length ds < 2 → read_hex ds ≡ []
 unfolding read_hex
@@ -72,7 +78,6 @@ read_short (a ∷ []) h = refl
 read_short (a ∷ b ∷ ds) h = absurd (omega arith)
 
 -- all that make two
-pub read_all : {a b : Line} {ds : List ℕ} (n : ℕ) → ReadSo a ds n b → length ds < n + 2 → Wrote a (read_hex ds) b
-read_all {a} {b} {ds} n so h =
-    let end : read_hex (drop n ds) ≡ [] = read_short (drop n ds) (simp length-drop (omega arith)) in
-    subst (λ t. Wrote a t b) (sym (so.left ∙ ap (λ t. so.text ++ t) end ∙ append-nil so.text)) so.wrote
+pub read_all : {a b : Line} {ds : List ℕ} (rest : List ℕ) → ReadSo a ds rest b → length rest < 2 → vec_items b ≡ vec_items a ++ read_hex ds
+read_all {a} rest so h =
+    so.has.held ∙ ap (λ t. vec_items a ++ t) (sym (so.left ∙ ap (λ t. so.text ++ t) (read_short rest h) ∙ append-nil so.text))

@@ -1,24 +1,23 @@
--- A line in the making, and what adding a part to it means.
+-- What adding a text to a line does.
 -- Want of memory is the one thing that can go wrong, and it can only where the room set aside does not suffice.
-use Rattle.std.specs.Prelude.{◌≡◌, ℕ, ◌+◌, ◌<◌, ◌≤◌, true, false, List, ◌++◌, length, Ok, Err, vec_items, vec_len, vec_capacity, Result, Vec}
+use Rattle.std.specs.Prelude.{◌≡◌, ℕ, ◌+◌, ◌<◌, ◌≤◌, List, [], ◌++◌, length, OnOk, OnErr, Some, None, Ok, Err, vec_items, vec_len, vec_capacity, Option, Result, Vec}
 use Rattle.std.specs.declared.alloc.AllocError.{AllocError}
 use Rattle.std.specs.declared.alloc.Global.{Global}
-use Rattle.script.specs.declared.line.Line.{Line}
 
--- The bytes of a line.
-abbrev pub held : Line → List ℕ
-held l = vec_items l.bytes
+-- A line: its bytes.
+abbrev pub Line : Type 0
+Line = Vec ℕ Global
 
--- Line b is line a with a text added: all of it, unless it is lost, and it is lost only for want of room.
-pub record Wrote (a : Line) (text : List ℕ) (b : Line) : Type 0 where
-  pub said : b.lost ≡ false → (a.lost ≡ false) × (held b ≡ held a ++ text)
-  pub full : b.lost ≡ true → a.lost ≡ false → vec_capacity a.bytes < vec_len a.bytes + length text
-  pub grows : vec_capacity a.bytes ≤ vec_capacity b.bytes
+-- Line b is line a with all of a text added, unless memory was wanting.
+pub record Wrote (a : Line) (text : List ℕ) (r : Result (Unit {0}) AllocError) (b : Line) : Type 0 where
+  pub said : OnOk r (vec_items b ≡ vec_items a ++ text)
+  pub full : OnErr r (vec_capacity a < vec_len a + length text)
+  pub grows : vec_capacity a ≤ vec_capacity b
 
--- What a line answers in the end: its bytes, or that memory was wanting.
-abbrev pub Taken : Line → Result (Vec ℕ Global) AllocError → Type 0
-Taken l (Ok v) = (l.lost ≡ false) × (v ≡ l.bytes)
-Taken l (Err e) = l.lost ≡ true
+-- The text of what may be missing: none if it is.
+abbrev pub option_text : {X : Type 0} → (X → List ℕ) → Option X → List ℕ
+option_text text (Some x) = text x
+option_text text None = []
 
 -- What a call that adds a text to bytes answers: the bytes with the text, or that memory was wanting, which it was only
 -- if the room set aside does not suffice.

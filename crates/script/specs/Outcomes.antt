@@ -3,7 +3,8 @@
 use Rattle.std.specs.Prelude.{◌≡◌, ℕ, ◌+◌, ◌-◌, ◌^◌, List, [], ◌∷◌, ◌++◌, Some, None, codes, decimal, Option}
 use Rattle.grammar.specs.declared.fault.Fault.{Fault}
 use Rattle.codes.specs.declared.Refusal.{Refusal}
-use Rattle.codes.specs.Codes.{number_of, name_of, fault_of, layer_name_of}
+use Rattle.grammar.specs.Faults.{layer_name}
+use Rattle.codes.specs.Codes.{number_of, name_of, fault_of}
 use Rattle.wire.specs.Messages.{meaning}
 use Rattle.script.specs.declared.answer.Reason.{Reason}
 use Rattle.script.specs.declared.answer.Reason.TheVariants.{NotText, UnknownCall, TooFewWords, TooManyWords, NotHexadecimal, OddDigits, NotEightKeys}
@@ -25,7 +26,7 @@ reason_text NotEightKeys = codes "not 256 digits"
 
 -- A fault: its layer and its place.
 abbrev pub fault_text : Option Fault → List ℕ
-fault_text (Some f) = 32 ∷ (layer_name_of f.layer ++ 32 ∷ decimal f.place)
+fault_text (Some f) = 32 ∷ (layer_name f.layer ++ 32 ∷ decimal f.place)
 fault_text None = []
 
 -- A refusal: number and name of its code, and the fault that it tells.

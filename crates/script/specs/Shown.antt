@@ -4,8 +4,7 @@ use Rattle.std.specs.Prelude.{ℕ, List, ◌++◌, codes, decimal}
 use Prim.Native.String.{String}
 use Rattle.wire.specs.declared.message.Entry.{Entry}
 use Rattle.wire.specs.declared.message.Sort.{Sort}
-use Rattle.wire.specs.declared.message.Sort.TheVariants.{Report, End}
-use Rattle.wire.specs.Messages.{Msg, Reply}
+use Rattle.wire.specs.Messages.{Msg, Reply, sort_name}
 use Rattle.script.specs.Texts.{field, boards_text, tags_text, entry_text, entries_text, replied_text, payload_text}
 
 -- A field that is a number.
@@ -42,11 +41,6 @@ reply_text s e = number "from" s ++ (field (codes "entry") (entry_text e.entry) 
 abbrev pub replies_text : ℕ → List Reply → List ℕ
 replies_text s es =
     field (codes "set") (boards_text s) ++ (field (codes "entries") (entries_text es) ++ field (codes "tags") (replied_text es))
-
--- The name of a sort.
-abbrev pub sort_name : Sort → List ℕ
-sort_name Report = codes "report"
-sort_name End = codes "end"
 
 -- What a sender's message carries.
 abbrev pub content_text : ℕ → ℕ → Sort → List ℕ → List ℕ

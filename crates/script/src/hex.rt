@@ -1,10 +1,10 @@
 // Reading hexadecimal: digits in either case, two a byte, the higher first.
 // Reading undoes writing: specs/Hex.antt.
 ghost use Rattle.std.specs.Prelude.{◌≡◌, ◌<◌};
-ghost use Rattle.script.specs.Lines.{Wrote, Adds};
+ghost use Rattle.script.specs.Lines.{Adds};
 ghost use Rattle.script.specs.Hex.{nibble, read_hex, Undone};
 
-use crate::line::Line;
+use crate::line::Text;
 use std::alloc::AllocError;
 
 // The number that a digit stands for.
@@ -19,28 +19,17 @@ fn nibble(digit: u8) -> u8
     }
 }
 
-impl Line {
-    // The bytes that digits stand for.
-    fn unhex(self, digits: &[u8]) -> Line
-        ensures { Wrote self (read_hex digits.now) result }
-    {
-        let mut line = self;
-        for i in 0..digits.len() / 2 {
-            line = line.byte(16 * nibble(digits[2 * i]) + nibble(digits[2 * i + 1]));
-        }
-        line
-    }
-}
-
 // Adds the bytes that hexadecimal digits stand for, two digits each; of an odd number of digits the last is left out.
-pub fn unhex(out: Vec<u8>, digits: &[u8]) -> Result<Vec<u8>, AllocError>
+pub fn unhex(mut out: Vec<u8>, digits: &[u8]) -> Result<Vec<u8>, AllocError>
     ensures { Adds out (read_hex digits.now) result }
 {
-    Line::on(out).unhex(digits).taken()
+    for pair in digits.chunks_exact(2) {
+        [16 * nibble(pair[0]) + nibble(pair[1])].write(&mut out)?;
+    }
+    Ok(out)
 }
 
 // Reading hexadecimal undoes writing it, and what is written is digits, two a byte.
 pub fn reading_undoes_writing()
     ensures { Undone }
-{
-}
+{}

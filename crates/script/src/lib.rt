@@ -12,6 +12,5 @@ mod lists;
 mod numbers;
 mod parts;
 mod shown;
-mod tags;
 pub mod tally;
 pub mod words;

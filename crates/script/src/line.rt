@@ -1,53 +1,66 @@
-// A line of text in the making: bytes are added at its end, and it is lost once there is no memory for more.
-// Each part added is one call; nothing is asked until the line is taken, so that a line reads as a chain of its parts.
-ghost use Rattle.script.specs.Lines.{Wrote, Taken};
-ghost use Rattle.std.specs.Prelude.{◌≡◌, false, [], ◌∷◌};
+// What stands on a line of text: each value says which bytes it is there, and adds them at the line's end.
+// `Display` would be the library's word for this, but says nothing of an Err; here an Err is want of memory and nothing else.
+ghost use Rattle.std.specs.Prelude.{ℕ, List, ◌++◌};
+ghost use Rattle.script.specs.Lines.{Wrote, option_text};
+ghost use Rattle.script.specs.Texts.{field};
 
 use std::alloc::AllocError;
 
-#[derive(Drop)]
-pub(crate) struct Line {
-    pub(crate) bytes: Vec<u8>,
-    pub(crate) lost: bool,
+pub(crate) trait Text {
+    ghost text: { Self → List ℕ };
+
+    fn write(&self, line: &mut Vec<u8>) -> Result<(), AllocError>
+        ensures { Wrote line.old (text self.now) result line.new };
 }
 
-impl Line {
-    // A line that goes on from the bytes given.
-    pub(crate) fn on(bytes: Vec<u8>) -> Line
-        ensures { (result.bytes ≡ bytes) × (result.lost ≡ false) }
-    {
-        Line { bytes, lost: false }
-    }
+impl Text for &str {
+    ghost text = { λ s. s.now };
 
-    // These bytes as they are.
-    pub(crate) fn bytes(mut self, bytes: &[u8]) -> Line
-        ensures { Wrote self bytes.now result }
-    {
-        if !self.lost && self.bytes.extend_from_slice(bytes).is_err() {
-            self.lost = true;
+    fn write(&self, line: &mut Vec<u8>) -> Result<(), AllocError> {
+        line.extend_from_slice(self.as_bytes())
+    }
+}
+
+// Bytes as they are.
+impl<const N: usize> Text for [u8; N] {
+    ghost text = { λ bs. bs };
+
+    fn write(&self, line: &mut Vec<u8>) -> Result<(), AllocError> {
+        line.extend_from_slice(self)
+    }
+}
+
+// One after the other.
+impl<A: Text, B: Text> Text for (A, B) {
+    ghost text = { λ p. A.text p.0 ++ B.text p.1 };
+
+    fn write(&self, line: &mut Vec<u8>) -> Result<(), AllocError> {
+        self.0.write(line)?;
+        self.1.write(line)
+    }
+}
+
+impl<T: Text> Text for Option<T> {
+    ghost text = { option_text T.text };
+
+    fn write(&self, line: &mut Vec<u8>) -> Result<(), AllocError> {
+        match self {
+            Some(value) => value.write(line),
+            None => Ok(()),
         }
-        self
     }
+}
 
-    // The bytes of a text.
-    pub(crate) fn text(self, text: &str) -> Line
-        ensures { Wrote self text.now result }
-    {
-        self.bytes(text.as_bytes())
-    }
+// A field: a space, its name, an equals sign, its value.
+#[derive(Clone, Copy)]
+pub(crate) struct Field<'a, T>(pub(crate) &'a str, pub(crate) T);
 
-    // One byte.
-    pub(crate) fn byte(self, byte: u8) -> Line
-        ensures { Wrote self (byte ∷ []) result }
-    {
-        self.bytes(&[byte])
-    }
+impl<T: Text> Text for Field<'_, T> {
+    ghost text = { λ f. field f.0.now (T.text f.1) };
 
-    // The bytes, unless some were lost.
-    pub(crate) fn taken(self) -> Result<Vec<u8>, AllocError>
-        ensures { Taken self result }
-    {
-        let Line { bytes, lost } = self;
-        if lost { Err(AllocError) } else { Ok(bytes) }
+    #[tactic(auto, unfolding(crate::specs::Texts::field))]
+    fn write(&self, line: &mut Vec<u8>) -> Result<(), AllocError> {
+        (" ", (self.0, "=")).write(line)?;
+        self.1.write(line)
     }
 }

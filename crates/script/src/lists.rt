@@ -1,107 +1,157 @@
-// Lists as text, with commas between and a dash for none: the boards of a set, tags, entries.
+// Lists as text, with commas between the items and a dash for none: the boards of a set, tags, entries.
 // What stands in each list: specs/Texts.antt; tags and entries as a message means them, heard, stored or fresh.
-ghost use Rattle.std.specs.Prelude.{[], decimal};
-ghost use Rattle.wire.specs.Messages.{tag_bytes};
+ghost use Rattle.std.specs.Prelude.{ℕ, List, slice_index, slice_index_or};
+ghost use Rattle.std.specs.Iterator.{AlwaysYields, IsFinite};
+ghost use Rattle.boards.specs.Boards.{member};
+ghost use Rattle.wire.specs.Messages.{listed, heard_replies, none, replies_by, tag_bytes, tags_by};
 ghost use Rattle.script.specs.Lines.{Wrote};
-ghost use Rattle.script.specs.Texts.{hex, entry_text, boards_text};
-ghost use Rattle.script.specs.Lists.{Lists, Added, Closed, comma_of};
+ghost use Rattle.script.specs.Texts.{boards_text, commas, entries_text, entry_text, hex, replied_text, tags_text};
 
-use crate::line::Line;
+use crate::line::Text;
+use crate::numbers::Hex;
 use boards::Set;
-use wire::message::Entry;
+use std::alloc::AllocError;
+use wire::message::{Entries, Entry, Replies, Tagged, Tags};
 
-// A list that is being added to a line.
-#[derive(Drop)]
-pub(crate) struct Listing {
-    pub(crate) line: Line,
-    pub(crate) some: bool,
+// Items with commas between them; a dash for none.
+fn commas<I: Iterator + Drop>(line: &mut Vec<u8>, mut items: I) -> Result<(), AllocError>
+where
+    I::Item: Text + Drop,
+    requires can { I.can_next items }
+    requires ends { IsFinite (I.remaining items) }
+    ensures { (texts : List (List ℕ)) → AlwaysYields I.next_gives I.Item.text items texts → Wrote line.old (commas texts) result line.new }
+{
+    let Some(first) = items.next() else {
+        return "-".write(line);
+    };
+    first.write(line)?;
+    for item in items {
+        (",", item).write(line)?;
+    }
+    Ok(())
 }
 
-impl Listing {
-    // A list of nothing yet.
-    pub(crate) fn on(line: Line) -> Listing
-        ensures { Lists line [] result }
-    {
-        Listing { line, some: false }
-    }
+// The boards of a set, by rising number.
+#[derive(Clone, Copy)]
+pub(crate) struct Boards(pub(crate) Set);
 
-    // The comma that an item needs that is not the first.
-    fn comma(self) -> Line
-        ensures { Wrote self.line (comma_of self.some) result }
-    {
-        let Listing { line, some } = self;
-        if some { line.byte(b',') } else { line }
-    }
+impl Text for Boards {
+    ghost text = { λ s. boards_text s.0.bits };
 
-    // One more item, a number.
-    pub(crate) fn number(self, n: u8) -> Listing
-        ensures { Added self (decimal n) result }
-    {
-        Listing {
-            line: self.comma().decimal(n as u64),
-            some: true,
-        }
-    }
-
-    // One more item, bytes in hexadecimal.
-    pub(crate) fn hex(self, bytes: &[u8]) -> Listing
-        ensures { Added self (hex bytes.now) result }
-    {
-        Listing {
-            line: self.comma().hex(bytes),
-            some: true,
-        }
-    }
-
-    // One more item, a tag in hexadecimal.
-    pub(crate) fn tag(self, tag: u64) -> Listing
-        ensures { Added self (hex (tag_bytes tag)) result }
-    {
-        self.hex(&tag.to_be_bytes())
-    }
-
-    // One more item, an entry.
-    pub(crate) fn entry(self, entry: Entry) -> Listing
-        ensures { Added self (entry_text entry) result }
-    {
-        Listing {
-            line: self.comma().entry(entry),
-            some: true,
-        }
-    }
-
-    // The line with the list, a dash if nothing was in it.
-    pub(crate) fn closed(self) -> Line
-        ensures { Closed self result }
-    {
-        let Listing { line, some } = self;
-        if some { line } else { line.byte(b'-') }
+    fn write(&self, line: &mut Vec<u8>) -> Result<(), AllocError> {
+        let set = self.0;
+        commas(line, (0..8u8).filter(|board| set.has(*board)))
     }
 }
 
-impl Line {
-    // An entry: its earlier rank and its change.
-    pub(crate) fn entry(self, entry: Entry) -> Line
-        ensures { Wrote self (entry_text entry) result }
-    {
-        if entry.earlier == 0 {
-            return self.text("none");
-        }
-        self.decimal(entry.earlier as u64)
-            .byte(b':')
-            .decimal(entry.change as u64)
-    }
+// A tag in hexadecimal.
+#[derive(Clone, Copy)]
+struct Tag(u64);
 
-    // The boards of a set, by rising number.
-    pub(crate) fn boards(self, set: Set) -> Line
-        ensures { Wrote self (boards_text set.bits) result }
-    {
-        let mut list = Listing::on(self);
-        for board in 0..8 {
-            if set.has(board) {
-                list = list.number(board);
-            }
+impl Text for Tag {
+    ghost text = { λ t. hex (tag_bytes t.0) };
+
+    fn write(&self, line: &mut Vec<u8>) -> Result<(), AllocError> {
+        Hex(&self.0.to_be_bytes()).write(line)
+    }
+}
+
+// An entry: its earlier rank and its change.
+impl Text for Entry {
+    ghost text = { entry_text };
+
+    fn write(&self, line: &mut Vec<u8>) -> Result<(), AllocError> {
+        if self.earlier == 0 {
+            return "none".write(line);
         }
-        list.closed()
+        (self.earlier, (":", self.change)).write(line)
+    }
+}
+
+// Tags that were heard, eight bytes each.
+fn heard_tags(line: &mut Vec<u8>, bytes: &[u8]) -> Result<(), AllocError>
+    ensures { Wrote line.old (tags_text bytes.now) result line.new }
+{
+    commas(line, bytes.chunks(8).map(|tag| Hex(tag)))
+}
+
+// The tags of a set's boards, stored by board number.
+fn stored_tags(line: &mut Vec<u8>, set: Set, tags: &[u64; 8]) -> Result<(), AllocError>
+    ensures { Wrote line.old (commas (listed (member set.bits) (λ b. hex (tag_bytes (slice_index tags.now b))) 8)) result line.new }
+{
+    commas(
+        line,
+        (0..8u8)
+            .filter(|board| set.has(*board))
+            .map(|board| Tag(tags[board as usize])),
+    )
+}
+
+// The tags of a set's boards.
+impl Text for Tagged<'_> {
+    ghost text = { λ by. tags_text (tags_by by) };
+
+    fn write(&self, line: &mut Vec<u8>) -> Result<(), AllocError> {
+        match self.tags {
+            Tags::Heard(bytes) => heard_tags(line, bytes),
+            Tags::Stored(tags) => stored_tags(line, self.set, tags),
+            Tags::Fresh(tag) => heard_tags(line, &tag.to_be_bytes()),
+        }
+    }
+}
+
+// Entries that were heard, each in the first of nine bytes.
+fn heard_entries(line: &mut Vec<u8>, bytes: &[u8]) -> Result<(), AllocError>
+    ensures { Wrote line.old (entries_text (heard_replies bytes.now)) result line.new }
+{
+    commas(line, bytes.chunks(9).map(|reply| Entry::from(reply[0])))
+}
+
+// Their tags, each in the eight bytes after it.
+fn heard_entry_tags(line: &mut Vec<u8>, bytes: &[u8]) -> Result<(), AllocError>
+    ensures { Wrote line.old (replied_text (heard_replies bytes.now)) result line.new }
+{
+    commas(line, bytes.chunks(9).map(|reply| Hex(&reply[1..])))
+}
+
+// The entries of a set's boards, stored by board number.
+fn stored_entries(line: &mut Vec<u8>, set: Set, entries: &[Entry; 8]) -> Result<(), AllocError>
+    ensures { Wrote line.old (commas (listed (member set.bits) (λ b. entry_text (slice_index_or entries.now b none)) 8)) result line.new }
+{
+    commas(
+        line,
+        (0..8u8)
+            .filter(|board| set.has(*board))
+            .map(|board| entries[board as usize]),
+    )
+}
+
+// The entries of a set's boards.
+#[derive(Clone, Copy)]
+pub(crate) struct EntriesOf<'a>(pub(crate) Replies<'a>);
+
+impl Text for EntriesOf<'_> {
+    ghost text = { λ by. entries_text (replies_by by.0) };
+
+    fn write(&self, line: &mut Vec<u8>) -> Result<(), AllocError> {
+        match self.0.entries {
+            Entries::Heard(bytes) => heard_entries(line, bytes),
+            Entries::Stored { entries, tags: _ } => stored_entries(line, self.0.set, entries),
+        }
+    }
+}
+
+// The tags beside them.
+#[derive(Clone, Copy)]
+pub(crate) struct TagsOf<'a>(pub(crate) Replies<'a>);
+
+impl Text for TagsOf<'_> {
+    ghost text = { λ by. replied_text (replies_by by.0) };
+
+    fn write(&self, line: &mut Vec<u8>) -> Result<(), AllocError> {
+        match self.0.entries {
+            Entries::Heard(bytes) => heard_entry_tags(line, bytes),
+            Entries::Stored { entries: _, tags } => stored_tags(line, self.0.set, tags),
+        }
     }
 }

@@ -1,73 +1,76 @@
 // Numbers and bytes as text: decimal digits, and two hexadecimal digits a byte in upper case.
 // The texts: specs/Texts.antt.
-ghost use Rattle.std.specs.Prelude.{◌≡◌, ◌<◌, [], decimal};
+ghost use Rattle.std.specs.Prelude.{◌≡◌, ◌<◌, decimal};
 ghost use Rattle.script.specs.Lines.{Wrote};
-ghost use Rattle.script.specs.Texts.{hex_digit, hex, payload_text, field};
+ghost use Rattle.script.specs.Texts.{hex_digit, hex, payload_text};
 
-use crate::line::Line;
+use crate::line::{Field, Text};
+use std::alloc::AllocError;
+
+// A number in decimal digits.
+fn digits(line: &mut Vec<u8>, n: u64) -> Result<(), AllocError>
+    ensures { Wrote line.old (decimal n) result line.new }
+{
+    let last = [b'0' + (n % 10) as u8];
+    if n < 10 {
+        return last.write(line);
+    }
+    digits(line, n / 10)?;
+    last.write(line)
+}
+
+impl Text for u64 {
+    ghost text = { decimal };
+
+    fn write(&self, line: &mut Vec<u8>) -> Result<(), AllocError> {
+        digits(line, *self)
+    }
+}
+
+impl Text for u8 {
+    ghost text = { decimal };
+
+    fn write(&self, line: &mut Vec<u8>) -> Result<(), AllocError> {
+        digits(line, *self as u64)
+    }
+}
 
 // The hexadecimal digit of a number below 16.
-pub(crate) fn hex_digit(n: u8) -> u8
+fn hex_digit(n: u8) -> u8
     requires { n < 16 }
     ensures { result ≡ hex_digit n }
 {
-    if n < 10 { 48 + n } else { 55 + n }
+    if n < 10 { b'0' + n } else { b'A' + n - 10 }
 }
 
-impl Line {
-    // A number in decimal digits.
-    pub(crate) fn decimal(self, n: u64) -> Line
-        ensures { Wrote self (decimal n) result }
-    {
-        let last = 48 + (n % 10) as u8;
-        if n < 10 {
-            self.byte(last)
-        } else {
-            self.decimal(n / 10).byte(last)
+// Bytes in hexadecimal.
+#[derive(Clone, Copy)]
+pub(crate) struct Hex<'a>(pub(crate) &'a [u8]);
+
+impl Text for Hex<'_> {
+    ghost text = { λ h. hex h.0.now };
+
+    fn write(&self, line: &mut Vec<u8>) -> Result<(), AllocError> {
+        for b in self.0 {
+            [hex_digit(*b / 16), hex_digit(*b % 16)].write(line)?;
         }
+        Ok(())
     }
+}
 
-    // Bytes in hexadecimal.
-    pub(crate) fn hex(self, bytes: &[u8]) -> Line
-        ensures { Wrote self (hex bytes.now) result }
-    {
-        let mut line = self;
-        for b in bytes {
-            line = line.byte(hex_digit(*b / 16)).byte(hex_digit(*b % 16));
-        }
-        line
-    }
+// A payload: how many bytes, and which; a dash if there are none.
+#[derive(Clone, Copy)]
+pub(crate) struct Payload<'a>(pub(crate) &'a [u8]);
 
-    // A field's name: a space before it, `=` after it.
-    pub(crate) fn name(self, name: &str) -> Line
-        ensures { Wrote self (field name.now []) result }
-    {
-        self.byte(b' ').text(name).byte(b'=')
-    }
+impl Text for Payload<'_> {
+    ghost text = { λ p. payload_text p.0.now };
 
-    // A field that is a number.
-    pub(crate) fn number(self, name: &str, n: u8) -> Line
-        ensures { Wrote self (field name.now (decimal n)) result }
-    {
-        self.name(name).decimal(n as u64)
-    }
-
-    // A field that is a word.
-    pub(crate) fn word(self, name: &str, word: &str) -> Line
-        ensures { Wrote self (field name.now word.now) result }
-    {
-        self.name(name).text(word)
-    }
-
-    // A payload: its length and its bytes, a dash if there are none.
-    pub(crate) fn payload(self, bytes: &[u8]) -> Line
-        ensures { Wrote self (payload_text bytes.now) result }
-    {
-        let line = self.name("len").decimal(bytes.len() as u64).name("payload");
-        if bytes.is_empty() {
-            line.byte(b'-')
+    fn write(&self, line: &mut Vec<u8>) -> Result<(), AllocError> {
+        Field("len", self.0.len() as u64).write(line)?;
+        if self.0.is_empty() {
+            Field("payload", "-").write(line)
         } else {
-            line.hex(bytes)
+            Field("payload", Hex(self.0)).write(line)
         }
     }
 }

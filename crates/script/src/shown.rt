@@ -2,16 +2,142 @@
 // The texts: specs/Shown.antt, of what the message means; where its bytes lie makes no difference.
 ghost use Rattle.std.specs.Prelude.{◌≡◌};
 ghost use Rattle.boards.specs.Boards.{only};
-ghost use Rattle.wire.specs.Messages.{tags_of, replies_of, meaning};
-ghost use Rattle.script.specs.Lines.{Wrote};
-ghost use Rattle.script.specs.Shown.{opening, ranked, graded, own_tag, spoken, reply_text, reply_of, gathered, proof_text, replies_text, content_text, sort_name, shown};
+ghost use Rattle.wire.specs.Messages.{meaning, replies_by, sort_name, tags_by, tags_of};
+ghost use Rattle.script.specs.Shown.{opening, ranked, graded, own_tag, spoken, reply_text, reply_of, gathered, proof_text, replies_text, content_text, shown};
 
-use crate::line::Line;
+use crate::line::{Field, Text};
+use crate::lists::{Boards, EntriesOf, TagsOf};
+use crate::numbers::Payload;
 use boards::Set;
-use wire::message::{Content, Entries, Entry, Message, Sort, Tags};
+use std::alloc::AllocError;
+use wire::message::{Content, Entry, Message, Replies, Sort, Tagged, Tags};
+
+// The kind's name and the view.
+#[derive(Clone, Copy)]
+struct Opening<'a>(&'a str, u8);
+
+impl Text for Opening<'_> {
+    ghost text = { λ o. opening o.0.now o.1 };
+
+    fn write(&self, line: &mut Vec<u8>) -> Result<(), AllocError> {
+        (self.0, Field("view", self.1)).write(line)
+    }
+}
+
+// The kind's name, view and rank.
+#[derive(Clone, Copy)]
+struct Ranked<'a>(&'a str, u8, u8);
+
+impl Text for Ranked<'_> {
+    ghost text = { λ r. ranked r.0.now r.1 r.2 };
+
+    fn write(&self, line: &mut Vec<u8>) -> Result<(), AllocError> {
+        (Opening(self.0, self.1), Field("rank", self.2)).write(line)
+    }
+}
+
+// The kind's name, view, rank and change.
+#[derive(Clone, Copy)]
+struct Graded<'a>(&'a str, u8, u8, u8);
+
+impl Text for Graded<'_> {
+    ghost text = { λ g. graded g.0.now g.1 g.2 g.3 };
+
+    fn write(&self, line: &mut Vec<u8>) -> Result<(), AllocError> {
+        (Ranked(self.0, self.1, self.2), Field("change", self.3)).write(line)
+    }
+}
+
+// A board's own tag.
+#[derive(Clone, Copy)]
+struct OwnTag<'a>(u8, Tags<'a>);
+
+impl Text for OwnTag<'_> {
+    ghost text = { λ t. own_tag (tags_of (only t.0) t.1) };
+
+    fn write(&self, line: &mut Vec<u8>) -> Result<(), AllocError> {
+        let tagged = Tagged {
+            set: Set::only(self.0),
+            tags: self.1,
+        };
+        Field("tag", tagged).write(line)
+    }
+}
+
+// The speaker and its tag.
+#[derive(Clone, Copy)]
+struct Spoken<'a>(u8, Tags<'a>);
+
+impl Text for Spoken<'_> {
+    ghost text = { λ s. spoken s.0 (tags_of (only s.0) s.1) };
+
+    fn write(&self, line: &mut Vec<u8>) -> Result<(), AllocError> {
+        (Field("from", self.0), OwnTag(self.0, self.1)).write(line)
+    }
+}
+
+// The speaker with its entry and its tag.
+#[derive(Clone, Copy)]
+struct Reply<'a>(u8, Entry, Tags<'a>);
+
+impl Text for Reply<'_> {
+    ghost text = { λ r. reply_text r.0 (reply_of r.1 (tags_of (only r.0) r.2)) };
+
+    fn write(&self, line: &mut Vec<u8>) -> Result<(), AllocError> {
+        (
+            Field("from", self.0),
+            (Field("entry", self.1), OwnTag(self.0, self.2)),
+        )
+            .write(line)
+    }
+}
+
+// A set and the tags of its boards.
+#[derive(Clone, Copy)]
+struct Gathered<'a>(Tagged<'a>);
+
+impl Text for Gathered<'_> {
+    ghost text = { λ g. gathered g.0.set.bits (tags_by g.0) };
+
+    fn write(&self, line: &mut Vec<u8>) -> Result<(), AllocError> {
+        (Field("set", Boards(self.0.set)), Field("tags", self.0)).write(line)
+    }
+}
+
+// A proof: the boards that acknowledged, and their tags.
+#[derive(Clone, Copy)]
+struct Proof<'a>(Tagged<'a>);
+
+impl Text for Proof<'_> {
+    ghost text = { λ p. proof_text p.0.set.bits (tags_by p.0) };
+
+    fn write(&self, line: &mut Vec<u8>) -> Result<(), AllocError> {
+        (
+            Field("proof", Boards(self.0.set)),
+            Field("prooftags", self.0),
+        )
+            .write(line)
+    }
+}
+
+// A set with the entries of its boards and their tags.
+impl Text for Replies<'_> {
+    ghost text = { λ r. replies_text r.set.bits (replies_by r) };
+
+    fn write(&self, line: &mut Vec<u8>) -> Result<(), AllocError> {
+        (
+            Field("set", Boards(self.set)),
+            (
+                Field("entries", EntriesOf(*self)),
+                Field("tags", TagsOf(*self)),
+            ),
+        )
+            .write(line)
+    }
+}
 
 // The name of a sort.
-fn sort_name(sort: Sort) -> &'static str
+fn name(sort: Sort) -> &'static str
     ensures { result.now ≡ sort_name sort }
 {
     match sort {
@@ -20,160 +146,81 @@ fn sort_name(sort: Sort) -> &'static str
     }
 }
 
-impl Line {
-    // The kind's name and the view.
-    fn opening(self, kind: &str, view: u8) -> Line
-        ensures { Wrote self (opening kind.now view) result }
-    {
-        self.text(kind).number("view", view)
-    }
+// What a sender's message carries.
+impl Text for Content<'_> {
+    ghost text = { λ c. content_text c.sender c.number c.sort c.payload.now };
 
-    // The kind's name, view and rank.
-    fn ranked(self, kind: &str, view: u8, rank: u8) -> Line
-        ensures { Wrote self (ranked kind.now view rank) result }
-    {
-        self.opening(kind, view).number("rank", rank)
+    fn write(&self, line: &mut Vec<u8>) -> Result<(), AllocError> {
+        (
+            Field("sender", self.sender),
+            (
+                Field("number", self.number),
+                (Field("sort", name(self.sort)), Payload(self.payload)),
+            ),
+        )
+            .write(line)
     }
+}
 
-    // The kind's name, view, rank and change.
-    fn graded(self, kind: &str, view: u8, rank: u8, change: u8) -> Line
-        ensures { Wrote self (graded kind.now view rank change) result }
-    {
-        self.ranked(kind, view, rank).number("change", change)
-    }
+impl Text for Message<'_> {
+    ghost text = { λ m. shown (meaning m) };
 
-    // A board's own tag.
-    fn own_tag(self, board: u8, tag: Tags<'_>) -> Line
-        ensures { Wrote self (own_tag (tags_of (only board) tag.entry)) result }
-    {
-        self.name("tag").tags(Set::only(board), tag)
-    }
-
-    // The speaker and its tag.
-    fn spoken(self, speaker: u8, tag: Tags<'_>) -> Line
-        ensures { Wrote self (spoken speaker (tags_of (only speaker) tag.entry)) result }
-    {
-        self.number("from", speaker).own_tag(speaker, tag)
-    }
-
-    // The speaker with its entry and its tag.
-    fn reply(self, speaker: u8, entry: Entry, tag: Tags<'_>) -> Line
-        ensures { Wrote self (reply_text speaker (reply_of entry (tags_of (only speaker) tag.entry))) result }
-    {
-        self.number("from", speaker)
-            .name("entry")
-            .entry(entry)
-            .own_tag(speaker, tag)
-    }
-
-    // A set and the tags of its boards.
-    fn gathered(self, set: Set, tags: Tags<'_>) -> Line
-        ensures { Wrote self (gathered set.bits (tags_of set.bits tags.entry)) result }
-    {
-        self.name("set").boards(set).name("tags").tags(set, tags)
-    }
-
-    // A proof: the boards that acknowledged, and their tags.
-    fn proof(self, set: Set, acks: Tags<'_>) -> Line
-        ensures { Wrote self (proof_text set.bits (tags_of set.bits acks.entry)) result }
-    {
-        self.name("proof")
-            .boards(set)
-            .name("prooftags")
-            .tags(set, acks)
-    }
-
-    // A set with the entries of its boards and their tags.
-    fn replies(self, set: Set, entries: Entries<'_>) -> Line
-        ensures { Wrote self (replies_text set.bits (replies_of set.bits entries.entry)) result }
-    {
-        self.name("set")
-            .boards(set)
-            .name("entries")
-            .entries(set, entries)
-            .name("tags")
-            .entry_tags(set, entries)
-    }
-
-    // What a sender's message carries.
-    fn content(self, content: Content<'_>) -> Line
-        ensures { Wrote self (content_text content.entry.sender content.entry.number content.entry.sort content.entry.payload.now) result }
-    {
-        self.number("sender", content.sender)
-            .number("number", content.number)
-            .word("sort", sort_name(content.sort))
-            .payload(content.payload)
-    }
-
-    // A message of any kind.
-    pub(crate) fn message(self, message: Message<'_>) -> Line
-        ensures { Wrote self (shown (meaning message.entry)) result }
-    {
-        match message {
+    fn write(&self, line: &mut Vec<u8>) -> Result<(), AllocError> {
+        match *self {
             Message::Notify {
                 view,
                 change,
                 speaker,
                 tag,
-            } => self
-                .opening("notify", view)
-                .number("change", change)
-                .spoken(speaker, tag),
-            Message::Suggest {
-                view,
-                change,
-                set,
-                tags,
-            } => self
-                .opening("suggest", view)
-                .number("change", change)
-                .gathered(set, tags),
+            } => {
+                (
+                    Opening("notify", view),
+                    (Field("change", change), Spoken(speaker, tag)),
+                )
+                    .write(line)
+            }
+            Message::Suggest { view, change, by } => {
+                (
+                    Opening("suggest", view),
+                    (Field("change", change), Gathered(by)),
+                )
+                    .write(line)
+            }
             Message::Ack {
                 view,
                 rank,
                 change,
                 speaker,
                 tag,
-            } => self.graded("ack", view, rank, change).spoken(speaker, tag),
+            } => { (Graded("ack", view, rank, change), Spoken(speaker, tag)).write(line) }
             Message::Proposal {
                 view,
                 rank,
                 change,
-                set,
-                tags,
-            } => self
-                .graded("proposal", view, rank, change)
-                .gathered(set, tags),
+                by,
+            } => { (Graded("proposal", view, rank, change), Gathered(by)).write(line) }
             Message::Ready {
                 view,
                 rank,
                 change,
                 speaker,
                 tag,
-            } => self
-                .graded("ready", view, rank, change)
-                .spoken(speaker, tag),
+            } => { (Graded("ready", view, rank, change), Spoken(speaker, tag)).write(line) }
             Message::Change {
                 view,
                 rank,
                 change,
-                set,
-                tags,
-            } => self
-                .graded("change", view, rank, change)
-                .gathered(set, tags),
+                by,
+            } => { (Graded("change", view, rank, change), Gathered(by)).write(line) }
             Message::Deputy {
                 view,
                 rank,
                 speaker,
                 tag,
-            } => self.ranked("deputy", view, rank).spoken(speaker, tag),
-            Message::Query {
-                view,
-                rank,
-                set,
-                tags,
-            } => self.ranked("query", view, rank).gathered(set, tags),
+            } => { (Ranked("deputy", view, rank), Spoken(speaker, tag)).write(line) }
+            Message::Query { view, rank, by } => {
+                (Ranked("query", view, rank), Gathered(by)).write(line)
+            }
             Message::Last {
                 view,
                 rank,
@@ -181,44 +228,35 @@ impl Line {
                 entry,
                 tag,
                 proof,
-                acks,
-            } => self
-                .ranked("last", view, rank)
-                .reply(speaker, entry, tag)
-                .proof(proof, acks),
+            } => {
+                (
+                    Ranked("last", view, rank),
+                    (Reply(speaker, entry, tag), Proof(proof)),
+                )
+                    .write(line)
+            }
             Message::SuggestLast {
                 view,
                 rank,
-                set,
-                entries,
+                replies,
                 proof,
-                acks,
-            } => self
-                .ranked("suggest-last", view, rank)
-                .replies(set, entries)
-                .proof(proof, acks),
-            Message::Init { view, content, tag } => self
-                .opening("init", view)
-                .content(content)
-                .own_tag(content.sender, tag),
+            } => { (Ranked("suggest-last", view, rank), (replies, Proof(proof))).write(line) }
+            Message::Init { view, content, tag } => {
+                (
+                    Opening("init", view),
+                    (content, OwnTag(content.sender, tag)),
+                )
+                    .write(line)
+            }
             Message::Echo {
                 view,
                 content,
                 speaker,
                 tag,
-            } => self
-                .opening("echo", view)
-                .content(content)
-                .spoken(speaker, tag),
-            Message::Commit {
-                view,
-                content,
-                set,
-                tags,
-            } => self
-                .opening("commit", view)
-                .content(content)
-                .gathered(set, tags),
+            } => { (Opening("echo", view), (content, Spoken(speaker, tag))).write(line) }
+            Message::Commit { view, content, by } => {
+                (Opening("commit", view), (content, Gathered(by))).write(line)
+            }
         }
     }
 }

@@ -1,6 +1,7 @@
 -- Keys are kept: their digits are those of 128 bytes, and these are the keys from then on.
 -- The laws are in Halves and Turns.
-use Rattle.std.proofs.Common.{◌≡◌, ◌++◌, Some, Ok, ap, ◌∙◌, subst}
+use Rattle.std.proofs.Common.{◌≡◌, ◌++◌, Some, Ok, refl, ap, ◌∙◌, subst}
+use Rattle.script.specs.declared.answer.Answer.TheVariants.{Kept}
 use Rattle.script.specs.declared.call.Call.TheVariants.{Keys}
 use Rattle.script.specs.Calls.{Parses}
 use Rattle.script.specs.Words.{body}
@@ -30,4 +31,4 @@ keys-requires c = eight_keys c.in-Ok-Some-Keys.digits.now _ (says c).1.2.1 (byte
 pub returns-in_ok-bytes-in-Ok-Some-Keys : goal.returns-in_ok-bytes-in-Ok-Some-Keys
 returns-in_ok-bytes-in-Ok-Some-Keys c =
     let before = (goal.at.returns-in_ok-bytes-in-Ok-Some-Keys c).After-deref-in-Ok-Some-Keys in
-    keys_played (body c.args.line.now) (state_of c.args.self) c.kept.result c.told-in-Ok-Some-Keys.result c.in-Ok-Some-Keys.digits (says before) c.kept.ensures c.keys.ensures (bytes_are before) c.told-in-Ok-Some-Keys.ensures
+    keys_played (body c.args.line.now) (state_of c.args.self) Kept c.told-in-Ok-Some-Keys.result c.in-Ok-Some-Keys.digits (says before) refl c.keys.ensures (bytes_are before) c.told-in-Ok-Some-Keys.ensures

@@ -1,7 +1,0 @@
--- The parts of a field that is a number, one after another.
--- The laws are in Chains.
-use Rattle.script.proofs.Chains.{named}
-use Rattle.script.proofs.line.Line.number.Goals as goal
-
-pub returns : goal.returns
-returns c = named _ c.name.ensures c.decimal.ensures
