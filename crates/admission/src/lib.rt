@@ -7,7 +7,7 @@ ghost use Rattle.admission.specs.Judged.{Judged};
 
 use checks::all_good;
 use codes::Refusal;
-use refusals::first::hear_refusal;
+use refusals::first::may_hear;
 use refusals::kinds::of_group;
 use row::row::Row;
 use schemes::Scheme;
@@ -20,15 +20,14 @@ pub fn judge<S: Scheme>(
     scheme: &S,
     m: &Message<'_>,
     room: usize,
-) -> Option<Option<Refusal>>
+) -> Option<Result<(), Refusal>>
     ensures { Judged S.Scheme row.now.state scheme.now (meaning m.now) room result }
 {
     if !is_formed(m) || !of_group(m) {
         return None;
     }
-    let cheap = hear_refusal(row, m, room, true, false);
-    if cheap.is_some() {
-        return Some(cheap);
+    if let Err(e) = may_hear(row, m, room, true, false) {
+        return Some(Err(e));
     }
-    Some(hear_refusal(row, m, room, all_good(scheme, m), scheme.is_spent()))
+    Some(may_hear(row, m, room, all_good(scheme, m), scheme.is_spent()))
 }

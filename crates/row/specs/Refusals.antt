@@ -1,6 +1,6 @@
 -- Why a call at a row is refused: each reason is a test of its own, and the answer is the first that holds, in the order of docs/REFUSALS.md.
 -- Messages of kinds 11 to 13 are not of this layer; no test speaks of them.
-use Rattle.std.specs.Prelude.{ℕ, ◌+◌, ◌-◌, ◌*◌, Bool, true, false, cond, not, ◌&&◌, ◌||◌, List, [], ◌∷◌, Some, None, Option, ◌==◌, nat_le, nat_lt, slice_index_or}
+use Rattle.std.specs.Prelude.{◌≡◌, ℕ, ◌+◌, ◌-◌, ◌*◌, Bool, true, false, cond, not, ◌&&◌, ◌||◌, List, [], ◌∷◌, Some, None, Option, Ok, Err, Result, ◌==◌, nat_le, nat_lt, slice_index_or}
 use Rattle.boards.specs.Boards.{member, size, place, only}
 use Rattle.codes.specs.declared.Refusal.{Refusal}
 use Rattle.codes.specs.declared.Refusal.TheVariants.{Board, Out, View, Member, Change, Turn, Late, Known, Size, Split, Tag, Spent}
@@ -16,6 +16,11 @@ use Rattle.boards.specs.Boards.{any}
 abbrev pub first_of : List (Bool × Refusal) → Option Refusal
 first_of [] = None
 first_of (r ∷ rs) = cond r.0 (Some r.1) (first_of rs)
+
+-- A call goes on exactly if no reason holds; if one does, it is the answer.
+abbrev pub Unless : Option Refusal → Result (Unit {0}) Refusal → Type 0
+Unless why (Ok _) = why ≡ None
+Unless why (Err e) = why ≡ Some e
 
 -- OUT: fewer than 128 bytes are offered.
 abbrev pub short : ℕ → Bool

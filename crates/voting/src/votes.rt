@@ -188,7 +188,7 @@ pub fn hear<S: Scheme>(
         return None;
     }
     match judge(row, scheme, m, out.len())? {
-        Some(e) => Some(Err(e)),
-        None => Some(Ok(accepted(row, scheme, m, out))),
+        Ok(()) => Some(Ok(accepted(row, scheme, m, out))),
+        Err(e) => Some(Err(e)),
     }
 }
