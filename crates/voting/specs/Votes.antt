@@ -1,4 +1,4 @@
--- The acks that a kept proposal came with, and what a row says of a message that it takes.
+-- What holds of a message that a row answers, and the tags that it keeps of one.
 -- The whole of each vote is `heard` of crate row.
 use Rattle.std.specs.Prelude.{◌≡◌, ℕ, true, cond, length, Some, None, ◌==◌}
 use Rattle.boards.specs.Boards.{member}

@@ -40,10 +40,13 @@ pub(crate) fn kept_entry(row: &Row) -> Entry
         earlier: 0,
         change: 0,
     };
-    row.state.voter.kept.map_or(none, |Kept { rank, change }| Entry {
-        earlier: rank,
-        change,
-    })
+    row.state.voter.kept.map_or(
+        none,
+        |Kept { rank, change }| Entry {
+            earlier: rank,
+            change,
+        },
+    )
 }
 
 // The acks that it has to show for that.

@@ -81,7 +81,15 @@ fn last<S: Scheme>(row: &mut Row, scheme: &mut S, rank: u8, out: &mut [u8]) -> S
         rank,
         entry: kept_entry(row),
     };
-    let sent = speak(scheme, row.board(), statement, &shown(row), seat(row, rank), out).unwrap();
+    let sent = speak(
+        scheme,
+        row.board(),
+        statement,
+        &shown(row),
+        seat(row, rank),
+        out,
+    )
+    .unwrap();
     row.state.voter.floor = 3 * rank;
     sent
 }
