@@ -9,7 +9,8 @@ use Rattle.wire.specs.Messages.{none}
 use Rattle.row.specs.declared.state.Count.{Count}
 use Rattle.row.specs.declared.state.Stand.{Stand}
 use Rattle.row.specs.declared.state.Leader.{Leader}
-use Rattle.row.specs.States.{insert, no_count, counted, count_at}
+use Rattle.row.specs.declared.state.Slot.{Slot}
+use Rattle.row.specs.States.{insert, no_count, counted, count_at, place_of}
 use Rattle.boards.specs.Boards.{every}
 use Rattle.row.specs.Rows.{tells, proves, alike, allowed, nothing, tellers}
 use Rattle.row.specs.Effects.{gained, told, undercuts, standing}
@@ -23,15 +24,15 @@ tells_by c es low =
     every (λ b. not (member c.set.bits b) || allowed (get_or es b none)) 8
     && (allowed low && alike (nothing low) (every (λ b. not (member c.set.bits b) || nothing (get_or es b none)) 8))
 
-pub gained_tells : (l : Leader) (i b t : ℕ) → i < 11 → tells (gained l i b t) ≡ tells l
+pub gained_tells : (l : Leader) (w : Slot) (b t : ℕ) → place_of w < 11 → tells (gained l w b t) ≡ tells l
 unfolding tells
-gained_tells l i b t h =
-    let ne : 11 ≢ i = omega arith in
-    ap (λ (c : Count). tells_by c l.entries l.lowest) (get_or-set_other l.counts i 11 (counted (count_at l i) b t) no_count ne)
+gained_tells l w b t h =
+    let ne : 11 ≢ place_of w = omega arith in
+    ap (λ (c : Count). tells_by c l.entries l.lowest) (get_or-set_other l.counts (place_of w) 11 (counted (count_at l w) b t) no_count ne)
 
-pub gained_proves : (l : Leader) (i b t : ℕ) → proves (gained l i b t) ≡ proves l
+pub gained_proves : (l : Leader) (w : Slot) (b t : ℕ) → proves (gained l w b t) ≡ proves l
 unfolding proves
-gained_proves l i b t = refl
+gained_proves l w b t = refl
 
 pub standing_tells : (l : Leader) (w : Stand) → tells (standing l w) ≡ tells l
 unfolding tells
@@ -106,7 +107,7 @@ told_tells l b t e p twelve eight h =
     (λ z. (λ i. alike (nothing (cond-false (undercuts e low) e low (and_left (not (nothing e)) _ (not_from_true (nothing e) z)) i)) (none_more s b es e there h.new z i)) ∙ rest.1)
     (λ z. λ i. alike (lowest_some e low z i) (some_more s b es e h.seated there z i))
     (cases_Bool (nothing e)) in
-    ap (λ (c : Count). tells_by c (set es b e) low2) (get_or-set_same l.counts 11 (counted (count_at l 11) b t) no_count (omega (arith, twelve))) ∙ and_from _ _ one (and_from _ _ two three)
+    ap (λ (c : Count). tells_by c (set es b e) low2) (get_or-set_same l.counts 11 (counted (count_at l Slot.Last) b t) no_count (omega (arith, twelve))) ∙ and_from _ _ one (and_from _ _ two three)
 
 both_shown : (u : Bool) (e low : Entry) (p q : Count) → alike (nothing e) (eqb p.set.bits 0) ≡ true → alike (nothing low) (eqb q.set.bits 0) ≡ true
     → alike (nothing (cond u e low)) (eqb (cond u p q).set.bits 0) ≡ true

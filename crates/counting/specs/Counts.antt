@@ -4,6 +4,7 @@ use Rattle.std.specs.Prelude.{◌≡◌, ℕ, ◌+◌, ◌<◌, Bool, true, fals
 use Rattle.wire.specs.declared.message.Entry.{Entry}
 use Rattle.row.specs.declared.state.Count.{Count}
 use Rattle.row.specs.declared.state.Leader.{Leader}
+use Rattle.row.specs.declared.state.Slot.{Slot}
 use Rattle.row.specs.Rows.{alike, allowed, nothing, tellers, tells, proves}
 use Rattle.boards.specs.Boards.{member}
 use Rattle.views.specs.Shares.{share, quorum}
@@ -32,19 +33,19 @@ Counted o out a st2 out2 = (st2 ≡ o.0) × Went o.1 out a out2
 
 -- What a notify, an ack, a ready and a deputy do, by the number of their tag.
 abbrev pub at_notify : State → ℕ → ℕ → ℕ → Outcome
-at_notify s c b n = let l = gained s.leader c b n in filled s l c (share (many s) + 1) (Acks c) (suggests s l c)
+at_notify s c b n = let l = gained s.leader (Slot.Notify c) b n in filled s l (Slot.Notify c) (share (many s) + 1) (Acks c) (suggests s l c)
 
 abbrev pub at_ack : State → ℕ → ℕ → ℕ → ℕ → Outcome
-at_ack s k c b n = let l = gained s.leader 8 b n in filled s l 8 (quorum (many s)) (Readies c) (proposes s l k c)
+at_ack s k c b n = let l = gained s.leader Slot.Ack b n in filled s l Slot.Ack (quorum (many s)) (Readies c) (proposes s l k c)
 
 abbrev pub at_ready : State → ℕ → ℕ → ℕ → ℕ → Outcome
-at_ready s k c b n = let l = gained s.leader 9 b n in filled s l 9 (quorum (many s)) Done (changes s l k c)
+at_ready s k c b n = let l = gained s.leader Slot.Ready b n in filled s l Slot.Ready (quorum (many s)) Done (changes s l k c)
 
 abbrev pub at_deputy : State → ℕ → ℕ → ℕ → Outcome
-at_deputy s k b n = let l = gained s.leader 10 b n in filled s l 10 (share (many s) + 1) Lasts (queries s l k)
+at_deputy s k b n = let l = gained s.leader Slot.Deputy b n in filled s l Slot.Deputy (share (many s) + 1) Lasts (queries s l k)
 
 abbrev pub at_last : State → ℕ → ℕ → ℕ → Entry → Count → Outcome
-at_last s k b n e p = let l = told s.leader b n e p in filled s l 11 (quorum (many s)) (Acks (called_for s l.lowest)) (suggests_last s l k)
+at_last s k b n e p = let l = told s.leader b n e p in filled s l Slot.Last (quorum (many s)) (Acks (called_for s l.lowest)) (suggests_last s l k)
 
 -- A board that was not counted tells an entry that the format allows, with a proof exactly if it has an earlier rank.
 pub record Tellable (l : Leader) (b : ℕ) (e : Entry) (p : Count) : Type 0 where

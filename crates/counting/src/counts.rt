@@ -1,20 +1,19 @@
 // The kinds that a row counts as manager or deputy; a full count goes out as a certificate.
 // Rules: docs/RULES.md, "Changing the group". What each does: `heard` in the specs of crate row, Effects.antt.
 ghost use Rattle.std.specs.Prelude.{◌≡◌, ◌+◌, ◌<◌, ◌≤◌, true, length};
-ghost use Rattle.views.specs.Shares.{share, quorum};
 ghost use Rattle.wire.specs.Messages.{Msg, meaning};
 ghost use Rattle.wire.specs.Acts.{tag_number};
 ghost use Rattle.row.specs.Rows.{tells, proves};
-ghost use Rattle.row.specs.States.{group, many, count_tags};
+ghost use Rattle.row.specs.States.{group, count_tags};
 ghost use Rattle.row.specs.Effects.{Effect, filled};
 ghost use Rattle.row.specs.Calls.{Posted, sent};
 ghost use Rattle.sending.proofs.Certificates.{Certified};
 ghost use Rattle.counting.specs.Counts.{Counted, SpeaksIt, own_tag, at_notify, at_ack, at_ready, at_deputy};
 
-use crate::leader::{count_at, fill, gained};
+use crate::leader::{fill, gained};
 use boards::Set;
 use row::row::Row;
-use row::state::{Count, Leader, Sent, Stand};
+use row::state::{Count, Leader, Sent, Slot, Stand};
 use sending::post;
 use signed::tag;
 use wire::message::{Message, Tags};
@@ -40,21 +39,21 @@ fn send(m: &Message<'_>, to: Set, out: &mut [u8]) -> Sent
     }
 }
 
-// Once the count at a place is full the leader stands so, and the certificate goes out.
+// Once the count in a slot is full the leader stands so, and the certificate goes out.
 fn certify(
     row: &mut Row,
     leader: Leader,
-    place: u8,
+    slot: Slot,
     least: u8,
     stand: Stand,
     m: &Message<'_>,
     to: Set,
     out: &mut [u8],
 ) -> Sent
-    requires { (place < 12) × (tells leader ≡ true) × (proves leader ≡ true) × Certified (meaning m.now) × (128 ≤ length out.old) }
-    ensures { Counted (filled row.old.state leader place least stand (Effect.sends to.bits (meaning m.now))) out.old result row.new.state out.new }
+    requires { (tells leader ≡ true) × (proves leader ≡ true) × Certified (meaning m.now) × (128 ≤ length out.old) }
+    ensures { Counted (filled row.old.state leader slot least stand (Effect.sends to.bits (meaning m.now))) out.old result row.new.state out.new }
 {
-    if fill(row, leader, place, least, stand) {
+    if fill(row, leader, slot, least, stand) {
         send(m, to, out)
     } else {
         silent()
@@ -108,20 +107,6 @@ fn query<'a>(view: u8, rank: u8, count: &'a Count) -> Message<'a>
     }
 }
 
-// More boards than may be faulty, just: f + 1.
-fn one_correct(row: &Row) -> u8
-    ensures { result ≡ share (many row.now.state) + 1 }
-{
-    row.view().shares().f + 1
-}
-
-// A quorum.
-fn enough(row: &Row) -> u8
-    ensures { result ≡ quorum (many row.now.state) }
-{
-    row.view().shares().q
-}
-
 // The members of the latest view.
 fn all(row: &Row) -> Set
     ensures { result.bits ≡ group row.now.state }
@@ -134,15 +119,15 @@ fn notify(row: &mut Row, change: u8, speaker: u8, number: u64, out: &mut [u8]) -
     requires { (change < 8) × (speaker < 8) × (128 ≤ length out.old) }
     ensures { Counted (at_notify row.old.state change speaker number) out.old result row.new.state out.new }
 {
-    let leader = gained(&row.state.leader, change, speaker, number);
-    let count = count_at(&leader, change);
-    let least = one_correct(row);
+    let leader = gained(&row.state.leader, Slot::Notify(change), speaker, number);
+    let count = leader.at(Slot::Notify(change));
+    let least = row.view().one_correct();
     let to = all(row);
     let m = suggest(row.latest(), change, &count);
     certify(
         row,
         leader,
-        change,
+        Slot::Notify(change),
         least,
         Stand::Acks { change },
         &m,
@@ -156,15 +141,15 @@ fn ack(row: &mut Row, rank: u8, change: u8, speaker: u8, number: u64, out: &mut 
     requires { (1 ≤ rank) × (rank ≤ 8) × (change < 8) × (speaker < 8) × (128 ≤ length out.old) }
     ensures { Counted (at_ack row.old.state rank change speaker number) out.old result row.new.state out.new }
 {
-    let leader = gained(&row.state.leader, 8, speaker, number);
-    let count = count_at(&leader, 8);
-    let least = enough(row);
+    let leader = gained(&row.state.leader, Slot::Ack, speaker, number);
+    let count = leader.at(Slot::Ack);
+    let least = row.view().quorum();
     let to = all(row);
     let m = proposal(row.latest(), rank, change, &count);
     certify(
         row,
         leader,
-        8,
+        Slot::Ack,
         least,
         Stand::Readies { change },
         &m,
@@ -178,11 +163,20 @@ fn ready(row: &mut Row, rank: u8, change: u8, speaker: u8, number: u64, out: &mu
     requires { (1 ≤ rank) × (rank ≤ 8) × (change < 8) × (speaker < 8) × (128 ≤ length out.old) }
     ensures { Counted (at_ready row.old.state rank change speaker number) out.old result row.new.state out.new }
 {
-    let leader = gained(&row.state.leader, 9, speaker, number);
-    let count = count_at(&leader, 9);
-    let least = enough(row);
+    let leader = gained(&row.state.leader, Slot::Ready, speaker, number);
+    let count = leader.at(Slot::Ready);
+    let least = row.view().quorum();
     let m = changed(row.latest(), rank, change, &count);
-    certify(row, leader, 9, least, Stand::Done, &m, Set::ALL, out)
+    certify(
+        row,
+        leader,
+        Slot::Ready,
+        least,
+        Stand::Done,
+        &m,
+        Set::ALL,
+        out,
+    )
 }
 
 // A deputy message: the (f + 1)th makes a query.
@@ -190,12 +184,12 @@ fn deputy(row: &mut Row, rank: u8, speaker: u8, number: u64, out: &mut [u8]) -> 
     requires { (1 ≤ rank) × (rank ≤ 8) × (speaker < 8) × (128 ≤ length out.old) }
     ensures { Counted (at_deputy row.old.state rank speaker number) out.old result row.new.state out.new }
 {
-    let leader = gained(&row.state.leader, 10, speaker, number);
-    let count = count_at(&leader, 10);
-    let least = one_correct(row);
+    let leader = gained(&row.state.leader, Slot::Deputy, speaker, number);
+    let count = leader.at(Slot::Deputy);
+    let least = row.view().one_correct();
     let to = all(row);
     let m = query(row.latest(), rank, &count);
-    certify(row, leader, 10, least, Stand::Lasts, &m, to, out)
+    certify(row, leader, Slot::Deputy, least, Stand::Lasts, &m, to, out)
 }
 
 // The tag of a message's speaker.

@@ -3,13 +3,13 @@
 ghost use Rattle.std.specs.Prelude.{◌≡◌, ◌<◌, true, length, if◌then◌else◌, ◌==◌, slice_set};
 ghost use Rattle.boards.specs.Boards.{size};
 ghost use Rattle.row.specs.Rows.{tells, proves};
-ghost use Rattle.row.specs.States.{counted, count_at, with_leader};
+ghost use Rattle.row.specs.States.{counted, place_of, with_leader};
 ghost use Rattle.row.specs.Effects.{gained, told, undercuts, standing, set_at};
 ghost use Rattle.counting.specs.Counts.{Tellable};
 
 use row::row::Row;
-use row::state::{Count, Leader, Stand};
-use seats::{insert, set_of};
+use row::state::{Count, Leader, Slot, Stand};
+use seats::insert;
 use wire::message::Entry;
 
 // The count with one board more, and its tag.
@@ -25,30 +25,15 @@ pub(crate) fn counted(count: &Count, board: u8, tag: u64) -> Count
     }
 }
 
-// What is counted at a place of the table.
-pub(crate) fn count_at(leader: &Leader, place: u8) -> Count
-    requires { place < 12 }
-    ensures is { result ≡ count_at leader.now place }
-    ensures byte { result.set.bits < 256 }
-    ensures table { length leader.now.counts ≡ 12 }
-{
-    let count = leader.counts[place as usize];
-    let tags = count.tags;
-    Count {
-        set: set_of(count.set.bits),
-        tags,
-    }
-}
-
-// The leader with one message more at a place of the table before that of the lasts.
-pub(crate) fn gained(leader: &Leader, place: u8, board: u8, tag: u64) -> Leader
-    requires { (place < 11) × (board < 8) }
-    ensures is { result ≡ gained leader.now place board tag }
+// The leader with one message more in a slot before that of the lasts.
+pub(crate) fn gained(leader: &Leader, slot: Slot, board: u8, tag: u64) -> Leader
+    requires { (place_of slot < 11) × (board < 8) }
+    ensures is { result ≡ gained leader.now slot board tag }
     ensures tells { tells result ≡ tells leader.now }
     ensures proves { proves result ≡ proves leader.now }
 {
     let mut counts = leader.counts;
-    counts[place as usize] = counted(&count_at(leader, place), board, tag);
+    counts[slot.place() as usize] = counted(&leader.at(slot), board, tag);
     Leader {
         stand: leader.stand,
         counts,
@@ -97,7 +82,7 @@ pub(crate) fn told(leader: &Leader, board: u8, tag: u64, entry: Entry, proof: Co
     ensures proves { proves result ≡ true }
 {
     let mut counts = leader.counts;
-    counts[11] = counted(&count_at(leader, 11), board, tag);
+    counts[Slot::Last.place() as usize] = counted(&leader.at(Slot::Last), board, tag);
     let entries = with_entry(&leader.entries, board, entry);
     let lower = undercuts(entry, leader.lowest);
     let lowest = either_entry(lower, entry, leader.lowest);
@@ -126,13 +111,13 @@ fn standing(leader: &Leader, stand: Stand) -> Leader
     }
 }
 
-// Whether the count at a place has so many boards; the leader then stands so.
-pub(crate) fn fill(row: &mut Row, leader: Leader, place: u8, least: u8, stand: Stand) -> bool
-    requires { (place < 12) × ((tells leader ≡ true) × (proves leader ≡ true)) }
-    ensures full { result ≡ (size (set_at leader place) == least) }
+// Whether the count in a slot has so many boards; the leader then stands so.
+pub(crate) fn fill(row: &mut Row, leader: Leader, slot: Slot, least: u8, stand: Stand) -> bool
+    requires { (tells leader ≡ true) × (proves leader ≡ true) }
+    ensures full { result ≡ (size (set_at leader slot) == least) }
     ensures state { row.new.state ≡ (if result then with_leader row.old.state (standing leader stand) else with_leader row.old.state leader) }
 {
-    if count_at(&leader, place).set.len() == least {
+    if leader.at(slot).set.len() == least {
         row.state.leader = standing(&leader, stand);
         true
     } else {

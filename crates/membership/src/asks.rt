@@ -15,7 +15,7 @@ use boards::Set;
 use row::row::Row;
 use row::state::{Sent, Voter};
 use schemes::Scheme;
-use seats::{insert, manager};
+use seats::insert;
 use sending::say;
 use views::view::View;
 use words::statement::Statement;
@@ -84,7 +84,7 @@ pub(crate) fn notify<S: Scheme>(row: &Row, scheme: &mut S, change: u8, out: &mut
     requires { (change < 8) × (128 ≤ length out.old) × (S.spent scheme.old ≡ false) }
     ensures { Done S.Scheme row.now.state.board (notifies row.now.state change) out.old scheme.old result scheme.new out.new }
 {
-    let to = Set::only(manager(row));
+    let to = Set::only(row.manager());
     match say(scheme, row.board(), notice(row, change), to, out) {
         Some(sent) => sent,
         None => unreachable(),
@@ -118,7 +118,7 @@ pub(crate) fn asked_out<S: Scheme>(row: &mut Row, scheme: &mut S, c: u8, out: &m
 {
     let suspects = insert(row.state.voter.suspects, c);
     let voter = suspecting(&row.state.voter, suspects);
-    let sent = if suspects.has(manager(row)) {
+    let sent = if suspects.has(row.manager()) {
         let board = trusted(row, suspects);
         deputise(row, scheme, board, out)
     } else {

@@ -2,7 +2,6 @@
 // Order: docs/REFUSALS.md.
 ghost use Rattle.std.specs.Prelude.{◌≡◌};
 ghost use Rattle.wire.specs.Messages.{meaning};
-ghost use Rattle.row.specs.States.{manager};
 ghost use Rattle.row.specs.Refusals.{hear_refusal, out_refusal, in_refusal, delivers, Unless};
 
 use crate::kinds::{answered, view_of};
@@ -77,13 +76,6 @@ pub fn may_ask_out(row: &Row, c: u8, room: usize, spent: bool) -> Result<(), Ref
     }
 }
 
-// The manager of the row's latest view.
-fn manager(row: &Row) -> u8
-    ensures { result ≡ manager row.now.state }
-{
-    row.view().manager()
-}
-
 // Whether the delivery view is the latest view.
 fn delivers(row: &Row, delivery: Option<u8>) -> bool
     ensures { result ≡ delivers row.now.state delivery }
@@ -112,7 +104,7 @@ pub fn may_ask_in(
         Err(Refusal::Member)
     } else if row.latest() >= LAST || row.view().has(c) {
         Err(Refusal::Change)
-    } else if !delivers(row, delivery) || row.state.voter.suspects.has(manager(row)) {
+    } else if !delivers(row, delivery) || row.state.voter.suspects.has(row.manager()) {
         Err(Refusal::Turn)
     } else if spent {
         Err(Refusal::Spent)

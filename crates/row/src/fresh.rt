@@ -11,11 +11,6 @@ use views::history::Views;
 use views::view::View;
 use wire::message::Entry;
 
-const NO_COUNT: Count = Count {
-    set: Set::EMPTY,
-    tags: [0; 8],
-};
-
 const NO_ENTRY: Entry = Entry {
     earlier: 0,
     change: 0,
@@ -38,7 +33,7 @@ pub(crate) fn voter(view: &View) -> Voter
         floor: 3 * view.len(),
         suspects: Set::EMPTY,
         kept: None,
-        support: NO_COUNT,
+        support: Count::NONE,
     }
 }
 
@@ -50,9 +45,9 @@ pub(crate) fn leader() -> Leader
 {
     Leader {
         stand: Stand::Idle,
-        counts: [NO_COUNT; 12],
+        counts: [Count::NONE; 12],
         entries: [NO_ENTRY; 8],
         lowest: NO_ENTRY,
-        proof: NO_COUNT,
+        proof: Count::NONE,
     }
 }

@@ -4,7 +4,7 @@ ghost use Rattle.std.specs.Prelude.{◌≡◌, ◌<◌, ◌≤◌, true, false, 
 ghost use Rattle.boards.specs.Boards.{member};
 ghost use Rattle.codes.specs.declared.Refusal.TheVariants.{Board};
 ghost use Rattle.views.specs.Histories.{begun, members_of, Counted, ByBoards, Peopled};
-ghost use Rattle.row.specs.States.{fresh, group, latest};
+ghost use Rattle.row.specs.States.{fresh, group, latest, manager};
 ghost use Rattle.row.specs.Rows.{keeps, tells, proves};
 
 use crate::fresh::{latest_view, leader, voter};
@@ -80,6 +80,14 @@ impl Row {
         ensures { result.set.bits ≡ group self.now.state }
     {
         latest_view(&self.views())
+    }
+
+    // The manager of its latest view.
+    pub fn manager(&self) -> u8
+        ensures is { result ≡ manager self.now.state }
+        ensures below { result < 8 }
+    {
+        self.view().manager()
     }
 
     // The members of the v-th view; no boards unless v is 1 to the latest.

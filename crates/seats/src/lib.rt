@@ -1,10 +1,10 @@
-// Who sits where in a row's latest view: the member of a rank, the manager, and the board that an earlier rank calls for.
+// Who sits where in a row's latest view: the member of a rank, and the board that an earlier rank calls for.
 // Words of the contracts: specs of crate row, States.antt and Effects.antt.
 #![tactic(auto)]
 
 ghost use Rattle.std.specs.Prelude.{◌≡◌, ◌<◌};
 ghost use Rattle.boards.specs.Boards.{only};
-ghost use Rattle.row.specs.States.{group, insert, manager, seat};
+ghost use Rattle.row.specs.States.{group, insert, seat};
 ghost use Rattle.row.specs.Effects.{called_for};
 
 use boards::Set;
@@ -21,21 +21,13 @@ pub fn seat(row: &Row, rank: u8) -> Set
     }
 }
 
-// The manager of the row's latest view.
-pub fn manager(row: &Row) -> u8
-    ensures is { result ≡ manager row.now.state }
-    ensures below { result < 8 }
-{
-    row.view().manager()
-}
-
 // The change that the lowest earlier rank calls for: its own, or the manager where there is none.
 pub fn called_for(row: &Row, low: Entry) -> u8
     ensures is { result ≡ called_for row.now.state low }
     ensures below { low.change < 8 → result < 8 }
 {
     if low.earlier == 0 {
-        manager(row)
+        row.manager()
     } else {
         low.change
     }

@@ -1,9 +1,9 @@
 // A view: a set of boards that is never empty, with its shares, its ranks, its manager and its next view.
 // Rule: docs/RULES.md, "Views, shares and ranks". Words of the contracts: specs/Groups.antt, specs/Shares.antt.
-ghost use Rattle.std.specs.Prelude.{◌≡◌, ◌<◌, ◌≤◌, true, MatchResult};
+ghost use Rattle.std.specs.Prelude.{◌≡◌, ◌+◌, ◌<◌, ◌≤◌, true, MatchResult};
 ghost use Rattle.boards.specs.Boards.{member, size, Rank, Holder};
 ghost use Rattle.views.specs.Groups.{toggle, Manager, NoView, NoChange};
-ghost use Rattle.views.specs.Shares.{Shared};
+ghost use Rattle.views.specs.Shares.{share, quorum, Shared};
 
 use crate::shares::{Share, shares_of};
 use boards::Set;
@@ -100,6 +100,20 @@ impl View {
         ensures { Shared (size self.now.set.bits) result }
     {
         shares_of(self.len())
+    }
+
+    // How many members have a correct one among them: one more than may be faulty.
+    pub fn one_correct(&self) -> u8
+        ensures { result ≡ share (size self.now.set.bits) + 1 }
+    {
+        self.shares().f + 1
+    }
+
+    // How many members make a quorum.
+    pub fn quorum(&self) -> u8
+        ensures { result ≡ quorum (size self.now.set.bits) }
+    {
+        self.shares().q
     }
 
     // The next view by change c: c leaves if it is a member and joins if not.

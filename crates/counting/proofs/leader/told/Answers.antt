@@ -2,6 +2,7 @@
 -- From the laws of leaders.
 use Rattle.std.proofs.Common.{◌≡◌, cond, length, set, ap, ◌∙◌}
 use Rattle.row.specs.declared.state.Count.{Count}
+use Rattle.row.specs.declared.state.Slot.TheVariants.{Last}
 use Rattle.row.specs.Rows.{tells, proves}
 use Rattle.row.specs.States.{counted, count_at}
 use Rattle.row.specs.Effects.{told, undercuts}
@@ -15,13 +16,13 @@ returns c =
     let e = c.args.entry in
     let p = c.args.proof in
     let u = c.undercuts-lower.result in
-    let n : c.counted.result ≡ counted (count_at l 11) b c.args.tag =
-    c.counted.ensures ∙ ap (λ (x : Count). counted x b c.args.tag) c.count_at.ensures.is in
+    let n : c.counted.result ≡ counted (count_at l Last) b c.args.tag =
+    c.counted.ensures ∙ ap (λ (x : Count). counted x b c.args.tag) c.at.ensures.is in
     let low : c.either_entry-lowest.result ≡ cond (undercuts e l.lowest) e l.lowest = c.either_entry-lowest.ensures ∙ ap (λ x. cond x e l.lowest) c.undercuts-lower.ensures in
     let shown : c.either_count-shown.result ≡ cond (undercuts e l.lowest) p l.proof = c.either_count-shown.ensures ∙ ap (λ x. cond x p l.proof) c.undercuts-lower.ensures in
     let is : _ ≡ told l b c.args.tag e p =
-    λ i. record { stand = l.stand; counts = set l.counts 11 (n i); entries = c.with_entry-entries.ensures.is i; lowest = low i; proof = shown i } in
-    let twelve : length l.counts ≡ 12 = c.count_at.ensures.table in
+    λ i. record { stand = l.stand; counts = set l.counts (c.place.ensures i) (n i); entries = c.with_entry-entries.ensures.is i; lowest = low i; proof = shown i } in
+    let twelve : length l.counts ≡ 12 = c.at.ensures.table in
     let eight : length l.entries ≡ 8 = c.with_entry-entries.ensures.eight in
     record {
       is = is;

@@ -1,9 +1,9 @@
 -- The member of the last rank is the highest member.
 -- From the law of `manager_in`.
-use mathlib.Core.Path.{sym, ap, ◌∙◌}
+use Rattle.std.proofs.Common.{sym, ap, ◌∙◌}
 use Rattle.row.specs.States.{manager_in}
 use Rattle.row.proofs.Picked.{manager_is}
-use Rattle.seats.proofs.manager.Goals as goal
+use Rattle.row.proofs.row.Row.manager.Goals as goal
 
 pub returns : goal.returns
 returns c = record {
