@@ -21,12 +21,6 @@ use writer::write;
 // The bytes that are enough for every message that a board sends.
 const ENOUGH: usize = 128;
 
-// What a statement has to show that needs no proof.
-const NO_PROOF: Count = Count {
-    set: Set::EMPTY,
-    tags: [0; 8],
-};
-
 // Whether there are bytes that spell a message.
 pub fn is_formed(m: &Message<'_>) -> bool
     ensures { Decides result (Formed (meaning m.now)) }
@@ -129,5 +123,5 @@ pub fn say<S: Scheme>(
 ) -> Option<Sent>
     ensures { Speaks S.Scheme board to.bits (said statement.entry) 0 [] out.old scheme.old result scheme.new out.new }
 {
-    speak(scheme, board, statement, &NO_PROOF, to, out)
+    speak(scheme, board, statement, &Count::NONE, to, out)
 }

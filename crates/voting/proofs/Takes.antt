@@ -1,8 +1,9 @@
--- What a message says that a row takes: its fields are in range, there is room for the answer, and the scheme is not spent.
+-- What a message says that a row takes: its fields are in range.
 -- One lemma a kind; what the kinds share comes first.
-use Rattle.std.proofs.Common.{◌≡◌, ℕ, ◌-◌, ◌*◌, ◌<◌, ◌≤◌, Bool, false, true, not, ◌&&◌, ◌||◌, List, length, sym, refl, ap, ◌∙◌, arith}
-use Rattle.std.proofs.lemmas.Bool.{eqb-true, ltb-false, not-false, or_parts}
-use Rattle.boards.specs.Boards.{size, place}
+use Rattle.std.proofs.Common.{◌≡◌, ℕ, ◌*◌, ◌^◌, ◌<◌, ◌≤◌, Bool, false, true, Some, None, Option, IfSome, ⊎_elim, not, ◌&&◌, ◌||◌, List, length, sym, refl, ap, subst, ◌∙◌, arith}
+use Rattle.std.proofs.lemmas.Bool.{cases_Bool, cond-true, cond-false, eqb-true, ltb-false, not-false, or_parts}
+use Rattle.std.specs.Option.{unwrap_or}
+use Rattle.boards.specs.Boards.{member, size, place}
 use Rattle.boards.proofs.Sets.{place_below}
 use Rattle.grammar.proofs.Held.{held}
 use Rattle.views.specs.Shares.{quorum}
@@ -14,7 +15,8 @@ use Rattle.wire.specs.declared.message.Tags.{Tags}
 use Rattle.wire.specs.declared.message.Message.{Message}
 use Rattle.wire.specs.declared.message.Message.TheVariants.{Proposal, Query}
 use Rattle.wire.specs.Messages.{Msg, Reply, meaning}
-use Rattle.wire.specs.Acts.{Act, lowest}
+use Rattle.wire.specs.Acts.{lowest, signers, tag_of, tag_number}
+use Rattle.signed.specs.Signed.{Tagged}
 use Rattle.wire.proofs.Signs.{lowest_fits}
 use Rattle.wire.proofs.Spelt.{between}
 use Rattle.row.specs.declared.state.State.{State}
@@ -22,11 +24,19 @@ use Rattle.row.specs.declared.state.Voter.{Voter}
 use Rattle.row.specs.declared.state.Sent.{Sent}
 use Rattle.row.specs.States.{group, many, inside}
 use Rattle.row.specs.Refusals.{answered}
-use Rattle.row.specs.Effects.{Effect, Outcome, readies, tells, heard}
-use Rattle.sending.specs.Sends.{Able}
-use Rattle.sending.proofs.Numbers.{tag_at_long}
+use Rattle.row.specs.Effects.{heard_tag}
+use Rattle.sending.proofs.Numbers.{number_is, tag_at_long}
 use Rattle.admission.proofs.Early.{Passed, passed}
 use Rattle.voting.specs.Votes.{Taken, WholeTags}
+
+-- A signer's tag is the number of its bytes; another board has none.
+pub heard_as : (m : Msg) (a b : ℕ) (o : Option ℕ) → WholeTags m a → Tagged m b o → IfSome o (λ x. x < 2 ^ 64) → unwrap_or o 0 ≡ heard_tag m a b
+heard_as m a b (Some x) w t fits =
+    sym (cond-true (member a b) (tag_number (tag_of m b)) 0 (ap (λ s. member s b) (sym w.signed) ∙ t.0) ∙ number_is x (tag_of m b) fits t.1)
+heard_as m a b None w t fits =
+    let out : member a b ≡ false =
+    ⊎_elim (λ f. ap (λ s. member s b) (sym w.signed) ∙ f) (λ short. ⊎_elim (λ i. absurd (short (w.long b i))) (λ no. no) (cases_Bool (member a b))) t in
+    sym (cond-false (member a b) (tag_number (tag_of m b)) 0 out)
 
 -- A member's view has a member.
 peopled : (s : State) (x : Bool) → (not (inside s) || x) ≡ false → 1 ≤ many s
@@ -36,34 +46,31 @@ module _ {S : Type 0} (g : Ghosts S) where
   passes : (st : State) (s : S) (m : Msg) (room : ℕ) → Taken g st s m room → Passed st m room (genuine (g.good s) m) (g.spent s)
   passes st s m room t = passed st m room (genuine (g.good s) m) (g.spent s) t.unrefused
 
-  able : (st : State) (s : S) (m : Msg) (out : List ℕ) → Taken g st s m (length out) → answered m ≡ true → Able g s out
-  able st s m out t w =
-      let p = passes st s m (length out) t in
-      record { roomy = ltb-false (length out) 128 p.roomy; unspent = sym (ap (λ a. a && g.spent s) w) ∙ p.unspent }
+  -- The same of a message by another name.
+  pub taken_as : (st : State) (s : S) (x y : Message) (room : ℕ) → x ≡ y → Taken g st s (meaning x) room → Taken g st s (meaning y) room
+  taken_as st s x y room e t = subst (λ z. Taken g st s (meaning z) room) e t
 
-  pub takes_suggest : (st : State) (s : S) (v c a : ℕ) (t : List ℕ) (out : List ℕ) → Taken g st s (Msg.suggest v c a t) (length out) → Able g s out × (c < 8)
-  takes_suggest st s v c a t out h = (able st s (Msg.suggest v c a t) out h refl, (held h.formed).3.3.3.1)
+  pub takes_suggest : (st : State) (s : S) (v c a : ℕ) (t : List ℕ) (room : ℕ) → Taken g st s (Msg.suggest v c a t) room → c < 8
+  takes_suggest st s v c a t room h = (held h.formed).3.3.3.1
 
-  pub takes_proposal : (st : State) (s : S) (v k c a : ℕ) (t : List ℕ) (out : List ℕ) → Taken g st s (Msg.proposal v k c a t) (length out)
-      → Able g s out × ((1 ≤ k) × (k ≤ 8) × (c < 8)) × WholeTags (Msg.proposal v k c a t) a × (1 ≤ size a)
-  takes_proposal st s v k c a t out h =
-      let p = passes st s (Msg.proposal v k c a t) (length out) h in
+  pub takes_proposal : (st : State) (s : S) (v k c a : ℕ) (t : List ℕ) (room : ℕ) → Taken g st s (Msg.proposal v k c a t) room
+      → ((1 ≤ k) × (k ≤ 8) × (c < 8)) × WholeTags (Msg.proposal v k c a t) a × (1 ≤ size a)
+  takes_proposal st s v k c a t room h =
+      let p = passes st s (Msg.proposal v k c a t) room h in
       let f = held h.formed in
       let r = between 1 8 k f.3.3.2 in
       let many_a : size a ≡ quorum (many st) = eqb-true (size a) (quorum (many st)) (not-false _ p.sized) in
       let one = peopled st _ p.member in
       let long : length t ≡ 8 * size a = f.3.3.3.3.3.3.0 in (
-        able st s (Msg.proposal v k c a t) out h refl,
         (r.0, r.1, f.3.3.3.3.1),
         record { signed = refl; long = λ b i. tag_at_long (place a b) t (omega (arith, long, place_below a b i)) },
         omega (arith, many_a, quorum_above (many st) one),
       )
 
-  pub takes_query : (st : State) (s : S) (v k a : ℕ) (t : List ℕ) (out : List ℕ) → Taken g st s (Msg.query v k a t) (length out) → Able g s out × ((1 ≤ k) × (k ≤ 8))
-  takes_query st s v k a t out h = (able st s (Msg.query v k a t) out h refl, between 1 8 k (held h.formed).3.3.2)
+  pub takes_query : (st : State) (s : S) (v k a : ℕ) (t : List ℕ) (room : ℕ) → Taken g st s (Msg.query v k a t) room → (1 ≤ k) × (k ≤ 8)
+  takes_query st s v k a t room h = between 1 8 k (held h.formed).3.3.2
 
-  pub takes_suggest_last : (st : State) (s : S) (v k a : ℕ) (es : List Reply) (q : ℕ) (ak out : List ℕ) → Taken g st s (Msg.suggest_last v k a es q ak) (length out)
-      → Able g s out × ((1 ≤ k) × (k ≤ 8) × ((lowest es).change < 8))
-  takes_suggest_last st s v k a es q ak out h =
-      let r = between 1 8 k (held h.formed).3.3.2 in
-      (able st s (Msg.suggest_last v k a es q ak) out h refl, (r.0, r.1, (lowest_fits v k a es q ak h.formed).change_fits))
+  pub takes_suggest_last : (st : State) (s : S) (v k a : ℕ) (es : List Reply) (q : ℕ) (ak : List ℕ) (room : ℕ) → Taken g st s (Msg.suggest_last v k a es q ak) room
+      → (1 ≤ k) × (k ≤ 8) × ((lowest es).change < 8)
+  takes_suggest_last st s v k a es q ak room h =
+      let r = between 1 8 k (held h.formed).3.3.2 in (r.0, r.1, (lowest_fits v k a es q ak h.formed).change_fits)

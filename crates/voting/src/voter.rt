@@ -1,6 +1,6 @@
 // What a row tells of what its voter keeps, and the acks that a proposal came with.
 // Words of the contracts: specs/Votes.antt, and specs of crate row, Effects.antt.
-ghost use Rattle.std.specs.Prelude.{◌≡◌, ◌<◌};
+ghost use Rattle.std.specs.Prelude.{◌≡◌};
 ghost use Rattle.wire.specs.Messages.{meaning};
 ghost use Rattle.row.specs.States.{kept_entry};
 ghost use Rattle.row.specs.Effects.{heard_tag, told_proof};
@@ -53,7 +53,6 @@ pub(crate) fn kept_entry(row: &Row) -> Entry
 pub(crate) fn shown(row: &Row) -> Count
     ensures set { result.set.bits ≡ told_proof row.now.state }
     ensures tags { result.tags ≡ row.now.state.voter.support.tags }
-    ensures byte { result.set.bits < 256 }
 {
     let support = row.state.voter.support;
     if kept_entry(row).earlier == 0 {

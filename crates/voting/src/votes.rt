@@ -24,6 +24,7 @@ use wire::message::Message;
 use words::statement::Statement;
 
 // An ack for a change.
+#[tactic(auto, unfolding(row::specs::Rows::keeps))]
 fn ack<S: Scheme>(row: &mut Row, scheme: &mut S, rank: u8, change: u8, out: &mut [u8]) -> Sent
     requires able { Able S.Scheme scheme.old out.old }
     requires asked { (1 ≤ rank) × (rank ≤ 8) × (change < 8) }
@@ -71,25 +72,19 @@ fn ready<S: Scheme>(
 }
 
 // A last that tells the kept proposal, with its acks as proof, or none.
+#[tactic(auto, unfolding(row::specs::Rows::keeps))]
 fn last<S: Scheme>(row: &mut Row, scheme: &mut S, rank: u8, out: &mut [u8]) -> Sent
     requires able { Able S.Scheme scheme.old out.old }
     requires asked { (1 ≤ rank) × (rank ≤ 8) }
     ensures { Did S.Scheme (with_floor row.old.state (3 * rank), tells row.old.state rank) row.old.state scheme.old out.old result row.new.state scheme.new out.new }
 {
-    let statement = Statement::Last {
+    let statement: Statement<'static> = Statement::Last {
         view: row.latest(),
         rank,
         entry: kept_entry(row),
     };
-    let sent = speak(
-        scheme,
-        row.board(),
-        statement,
-        &shown(row),
-        seat(row, rank),
-        out,
-    )
-    .unwrap();
+    let proof = shown(row);
+    let sent = speak(scheme, row.board(), statement, &proof, seat(row, rank), out).unwrap();
     row.state.voter.floor = 3 * rank;
     sent
 }
