@@ -1,13 +1,12 @@
 -- What an ask says that is not refused, and that a board always trusts some member: itself.
 -- From the order of the reasons.
-use Rattle.std.proofs.Common.{◌≡◌, ℕ, ◌+◌, ◌<◌, ◌≤◌, Bool, true, false, cond, not, ◌&&◌, ◌||◌, eqb, leb, Some, None, Option, IsSome, sym, refl, ap, subst, ◌∙◌, add-one, arith}
+use Rattle.std.proofs.Common.{◌≡◌, ℕ, ◌<◌, ◌≤◌, Bool, true, false, not, ◌&&◌, ◌||◌, eqb, leb, None, Option, sym, ap, ◌∙◌}
 use Rattle.std.proofs.lemmas.Bool.{and_from, and_parts, both_ways, eq-eqb, leb-false, ltb-false, ne_eqb, not-false, not_from_false, or_from, or_parts}
 use Rattle.boards.specs.Boards.{member}
-use Rattle.codes.specs.declared.Refusal.{Refusal}
 use Rattle.codes.specs.declared.Refusal.TheVariants.{Board, Out, Member, Change, Turn, Spent}
 use Rattle.row.specs.declared.state.State.{State}
 use Rattle.row.specs.declared.row.Row.{Row}
-use Rattle.row.specs.States.{highest, insert, group, inside, latest, manager}
+use Rattle.row.specs.States.{insert, group, inside, latest, manager}
 use Rattle.row.specs.Refusals.{short, out_refusal, in_refusal, delivers}
 use Rattle.row.specs.Effects.{trusted}
 use Rattle.row.proofs.Chosen.{highest_passes}

@@ -1,7 +1,7 @@
 -- What a message says that a row takes: its fields are in range.
 -- One lemma a kind; what the kinds share comes first.
-use Rattle.std.proofs.Common.{◌≡◌, ℕ, ◌*◌, ◌^◌, ◌<◌, ◌≤◌, Bool, false, true, Some, None, Option, IfSome, ⊎_elim, not, ◌&&◌, ◌||◌, List, length, sym, refl, ap, subst, ◌∙◌, arith}
-use Rattle.std.proofs.lemmas.Bool.{cases_Bool, cond-true, cond-false, eqb-true, ltb-false, not-false, or_parts}
+use Rattle.std.proofs.Common.{◌≡◌, ℕ, ◌*◌, ◌^◌, ◌<◌, ◌≤◌, Bool, false, Some, None, Option, IfSome, ⊎_elim, not, ◌||◌, List, length, sym, refl, ap, subst, ◌∙◌, arith}
+use Rattle.std.proofs.lemmas.Bool.{cases_Bool, cond-true, cond-false, eqb-true, not-false, or_parts}
 use Rattle.std.specs.Option.{unwrap_or}
 use Rattle.boards.specs.Boards.{member, size, place}
 use Rattle.boards.proofs.Sets.{place_below}
@@ -10,20 +10,14 @@ use Rattle.views.specs.Shares.{quorum}
 use Rattle.views.proofs.Rule.{quorum_above}
 use Rattle.schemes.specs.declared.Scheme.{Ghosts}
 use Rattle.checks.specs.Checks.{genuine}
-use Rattle.boards.specs.declared.Set.{Set}
-use Rattle.wire.specs.declared.message.Tags.{Tags}
 use Rattle.wire.specs.declared.message.Message.{Message}
-use Rattle.wire.specs.declared.message.Message.TheVariants.{Proposal, Query}
 use Rattle.wire.specs.Messages.{Msg, Reply, meaning}
-use Rattle.wire.specs.Acts.{lowest, signers, tag_of, tag_number}
+use Rattle.wire.specs.Acts.{lowest, tag_of, tag_number}
 use Rattle.signed.specs.Signed.{Tagged}
 use Rattle.wire.proofs.Signs.{lowest_fits}
 use Rattle.wire.proofs.Spelt.{between}
 use Rattle.row.specs.declared.state.State.{State}
-use Rattle.row.specs.declared.state.Voter.{Voter}
-use Rattle.row.specs.declared.state.Sent.{Sent}
 use Rattle.row.specs.States.{group, many, inside}
-use Rattle.row.specs.Refusals.{answered}
 use Rattle.row.specs.Effects.{heard_tag}
 use Rattle.sending.proofs.Numbers.{number_is, tag_at_long}
 use Rattle.admission.proofs.Early.{Passed, passed}

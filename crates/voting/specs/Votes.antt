@@ -1,6 +1,6 @@
 -- What holds of a message that a row answers, and the tags that it keeps of one.
 -- The whole of each vote is `heard` of crate row.
-use Rattle.std.specs.Prelude.{◌≡◌, ℕ, true, cond, length, Some, None, ◌==◌}
+use Rattle.std.specs.Prelude.{◌≡◌, ℕ, true, length, None}
 use Rattle.boards.specs.Boards.{member}
 use Rattle.wire.specs.Acts.{signers, tag_of}
 use Rattle.schemes.specs.declared.Scheme.{Ghosts}
@@ -9,8 +9,7 @@ use Rattle.wire.specs.Messages.{Msg}
 use Rattle.wire.specs.Format.{Formed}
 use Rattle.row.specs.declared.state.State.{State}
 use Rattle.row.specs.declared.state.Count.{Count}
-use Rattle.row.specs.declared.state.Voter.{Voter}
-use Rattle.row.specs.States.{the_set, kept_entry}
+use Rattle.row.specs.States.{the_set}
 use Rattle.row.specs.Refusals.{answered, hear_refusal}
 use Rattle.row.specs.Effects.{heard_tag, each_board}
 
