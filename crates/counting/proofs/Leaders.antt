@@ -24,23 +24,12 @@ tells_by c es low =
     every (λ b. not (member c.set.bits b) || allowed (get_or es b none)) 8
     && (allowed low && alike (nothing low) (every (λ b. not (member c.set.bits b) || nothing (get_or es b none)) 8))
 
-pub gained_tells : (l : Leader) (w : Slot) (b t : ℕ) → place_of w < 11 → tells (gained l w b t) ≡ tells l
+-- A count before that of the lasts changes nothing of what is told.
+pub gained_tells : (l : Leader) (i : ℕ) (n : Count) → i < 11 → tells (record { stand = l.stand; counts = set l.counts i n; entries = l.entries; lowest = l.lowest; proof = l.proof }) ≡ tells l
 unfolding tells
-gained_tells l w b t h =
-    let ne : 11 ≢ place_of w = omega arith in
-    ap (λ (c : Count). tells_by c l.entries l.lowest) (get_or-set_other l.counts (place_of w) 11 (counted (count_at l w) b t) no_count ne)
-
-pub gained_proves : (l : Leader) (w : Slot) (b t : ℕ) → proves (gained l w b t) ≡ proves l
-unfolding proves
-gained_proves l w b t = refl
-
-pub standing_tells : (l : Leader) (w : Stand) → tells (standing l w) ≡ tells l
-unfolding tells
-standing_tells l w = refl
-
-pub standing_proves : (l : Leader) (w : Stand) → proves (standing l w) ≡ proves l
-unfolding proves
-standing_proves l w = refl
+gained_tells l i n h =
+    let ne : 11 ≢ i = omega arith in
+    ap (λ (c : Count). tells_by c l.entries l.lowest) (get_or-set_other l.counts i 11 n no_count ne)
 
 -- Whether a board's entry passes, where it told one.
 abbrev each : (Entry → Bool) → ℕ → List Entry → ℕ → Bool
@@ -90,7 +79,7 @@ lowest_some e low z =
     (λ u. (or_parts (eqb low.earlier 0) (ltb e.earlier low.earlier) (sym (ap (λ t. t && (eqb low.earlier 0 || ltb e.earlier low.earlier)) (not_from_false (nothing e) z)) ∙ u)).0)
 
 -- What every leader keeps of lasts, with one last more.
-pub told_tells : (l : Leader) (b t : ℕ) (e : Entry) (p : Count) → length l.counts ≡ 12 → length l.entries ≡ 8 → Tellable l b e p → tells (told l b t e p) ≡ true
+told_tells : (l : Leader) (b t : ℕ) (e : Entry) (p : Count) → length l.counts ≡ 12 → length l.entries ≡ 8 → Tellable l b e p → tells (told l b t e p) ≡ true
 unfolding tells
 told_tells l b t e p twelve eight h =
     let s = tellers l in
@@ -114,6 +103,16 @@ both_shown : (u : Bool) (e low : Entry) (p q : Count) → alike (nothing e) (eqb
 both_shown true e low p q x y = x
 both_shown false e low p q x y = y
 
-pub told_proves : (l : Leader) (b t : ℕ) (e : Entry) (p : Count) → Tellable l b e p → proves (told l b t e p) ≡ true
+told_proves : (l : Leader) (b t : ℕ) (e : Entry) (p : Count) → Tellable l b e p → proves (told l b t e p) ≡ true
 unfolding proves
 told_proves l b t e p h = both_shown (undercuts e l.lowest) e l.lowest p l.proof h.shown h.proved_so
+
+-- The same by other names of the place, the count and whether the entry undercuts the lowest.
+pub told_keeps : (l : Leader) (b t : ℕ) (e : Entry) (p : Count) (i : ℕ) (n : Count) (u : Bool) → i ≡ 11 → n ≡ counted (count_at l Slot.Last) b t → u ≡ undercuts e l.lowest
+    → length l.counts ≡ 12 → length l.entries ≡ 8 → Tellable l b e p
+    → let r : Leader = record { stand = l.stand; counts = set l.counts i n; entries = set l.entries b e; lowest = cond u e l.lowest; proof = cond u p l.proof } in
+    (tells r ≡ true) × (proves r ≡ true)
+told_keeps l b t e p i n u ei en eu twelve eight h =
+    let is : _ ≡ told l b t e p =
+    λ j. record { stand = l.stand; counts = set l.counts (ei j) (en j); entries = set l.entries b e; lowest = cond (eu j) e l.lowest; proof = cond (eu j) p l.proof } in
+    (ap tells is ∙ told_tells l b t e p twelve eight h, ap proves is ∙ told_proves l b t e p h)
