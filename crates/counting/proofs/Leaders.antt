@@ -7,13 +7,12 @@ use Rattle.boards.proofs.Sets.{with_old, with_new}
 use Rattle.wire.specs.declared.message.Entry.{Entry}
 use Rattle.wire.specs.Messages.{none}
 use Rattle.row.specs.declared.state.Count.{Count}
-use Rattle.row.specs.declared.state.Stand.{Stand}
 use Rattle.row.specs.declared.state.Leader.{Leader}
 use Rattle.row.specs.declared.state.Slot.{Slot}
-use Rattle.row.specs.States.{insert, no_count, counted, count_at, place_of}
+use Rattle.row.specs.States.{insert, no_count, counted, count_at}
 use Rattle.boards.specs.Boards.{every}
 use Rattle.row.specs.Rows.{tells, proves, alike, allowed, nothing, tellers}
-use Rattle.row.specs.Effects.{gained, told, undercuts, standing}
+use Rattle.row.specs.Effects.{told, undercuts}
 use Rattle.boards.proofs.Chosen.{every_true, every_at, every_false}
 use Rattle.row.proofs.Picked.{inserted}
 use Rattle.counting.specs.Counts.{Tellable}
@@ -107,12 +106,12 @@ told_proves : (l : Leader) (b t : ℕ) (e : Entry) (p : Count) → Tellable l b 
 unfolding proves
 told_proves l b t e p h = both_shown (undercuts e l.lowest) e l.lowest p l.proof h.shown h.proved_so
 
--- The same by other names of the place, the count and whether the entry undercuts the lowest.
-pub told_keeps : (l : Leader) (b t : ℕ) (e : Entry) (p : Count) (i : ℕ) (n : Count) (u : Bool) → i ≡ 11 → n ≡ counted (count_at l Slot.Last) b t → u ≡ undercuts e l.lowest
+-- The same by other names of the place, the count, the entries and whether the entry undercuts the lowest.
+pub told_keeps : (l : Leader) (b t : ℕ) (e : Entry) (p : Count) (i : ℕ) (n : Count) (es : List Entry) (u : Bool) → i ≡ 11 → n ≡ counted (count_at l Slot.Last) b t → es ≡ set l.entries b e → u ≡ undercuts e l.lowest
     → length l.counts ≡ 12 → length l.entries ≡ 8 → Tellable l b e p
-    → let r : Leader = record { stand = l.stand; counts = set l.counts i n; entries = set l.entries b e; lowest = cond u e l.lowest; proof = cond u p l.proof } in
+    → let r : Leader = record { stand = l.stand; counts = set l.counts i n; entries = es; lowest = cond u e l.lowest; proof = cond u p l.proof } in
     (tells r ≡ true) × (proves r ≡ true)
-told_keeps l b t e p i n u ei en eu twelve eight h =
+told_keeps l b t e p i n es u ei en ee eu twelve eight h =
     let is : _ ≡ told l b t e p =
-    λ j. record { stand = l.stand; counts = set l.counts (ei j) (en j); entries = set l.entries b e; lowest = cond (eu j) e l.lowest; proof = cond (eu j) p l.proof } in
+    λ j. record { stand = l.stand; counts = set l.counts (ei j) (en j); entries = ee j; lowest = cond (eu j) e l.lowest; proof = cond (eu j) p l.proof } in
     (ap tells is ∙ told_tells l b t e p twelve eight h, ap proves is ∙ told_proves l b t e p h)

@@ -1,6 +1,6 @@
 // What a counted message leaves of the leader.
 // Words of the contracts: specs of crate row, Effects.antt.
-ghost use Rattle.std.specs.Prelude.{◌≡◌, ◌<◌, true};
+ghost use Rattle.std.specs.Prelude.{◌≡◌, ◌<◌, true, length, slice_set};
 ghost use Rattle.row.specs.Rows.{tells, proves};
 ghost use Rattle.row.specs.States.{counted, place_of};
 ghost use Rattle.row.specs.Effects.{gained, told, undercuts};
@@ -42,6 +42,17 @@ fn undercuts(entry: Entry, low: Entry) -> bool
     entry.earlier != 0 && (low.earlier == 0 || entry.earlier < low.earlier)
 }
 
+// The entries with that of one board more.
+fn with_entry(old: &[Entry; 8], board: u8, entry: Entry) -> [Entry; 8]
+    requires { board < 8 }
+    ensures is { result ≡ slice_set old.now board entry }
+    ensures eight { length old.now ≡ 8 }
+{
+    let mut entries = *old;
+    entries[board as usize] = entry;
+    entries
+}
+
 // The leader with one last more: its entry, and its proof if its earlier rank is the lowest so far.
 pub(crate) fn told(leader: &Leader, board: u8, tag: u64, entry: Entry, proof: Count) -> Leader
     requires { Tellable leader.now board entry proof }
@@ -51,11 +62,9 @@ pub(crate) fn told(leader: &Leader, board: u8, tag: u64, entry: Entry, proof: Co
 {
     let mut counts = leader.counts;
     counts[Slot::Last.place() as usize] = counted(&leader.at(Slot::Last), board, tag);
-    let mut entries = leader.entries;
-    entries[board as usize] = entry;
     let mut next = Leader {
         counts,
-        entries,
+        entries: with_entry(&leader.entries, board, entry),
         ..*leader
     };
     if undercuts(entry, leader.lowest) {

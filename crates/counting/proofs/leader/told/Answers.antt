@@ -10,12 +10,14 @@ pub returns-then-undercuts : goal.returns-then-undercuts
 returns-then-undercuts c =
     let l = c.args.leader.now in
     let n = c.counted.ensures ∙ ap (λ (x : Count). counted x c.args.board c.args.tag) c.at.ensures.is in
-    let k = told_keeps l c.args.board c.args.tag c.args.entry c.args.proof c.place.result c.counted.result true c.place.ensures n (sym c.if-undercuts.true ∙ c.undercuts.ensures) c.at.ensures.table (search rules) c.requires in
+    let u = sym c.if-undercuts.true ∙ c.undercuts.ensures in
+    let k = told_keeps l c.args.board c.args.tag c.args.entry c.args.proof c.place.result c.counted.result c.with_entry.result true c.place.ensures n c.with_entry.ensures.is u c.at.ensures.table c.with_entry.ensures.eight c.requires in
     record { is = search rules; tells = k.0; proves = k.1 }
 
 pub returns-else-undercuts : goal.returns-else-undercuts
 returns-else-undercuts c =
     let l = c.args.leader.now in
     let n = c.counted.ensures ∙ ap (λ (x : Count). counted x c.args.board c.args.tag) c.at.ensures.is in
-    let k = told_keeps l c.args.board c.args.tag c.args.entry c.args.proof c.place.result c.counted.result false c.place.ensures n (sym c.if-undercuts.false ∙ c.undercuts.ensures) c.at.ensures.table (search rules) c.requires in
+    let u = sym c.if-undercuts.false ∙ c.undercuts.ensures in
+    let k = told_keeps l c.args.board c.args.tag c.args.entry c.args.proof c.place.result c.counted.result c.with_entry.result false c.place.ensures n c.with_entry.ensures.is u c.at.ensures.table c.with_entry.ensures.eight c.requires in
     record { is = search rules; tells = k.0; proves = k.1 }
