@@ -8,8 +8,8 @@ pub certify-requires : goal.certify-requires
 certify-requires c =
     let w = c.args.row.now in
     let n = c.at-count.result in
-    let v1 = subst (λ x. 1 ≤ x) (sym c.latest.ensures) w.counted.2 in
-    let v2 = subst (λ x. x ≤ 64) (sym c.latest.ensures) w.counted.3 in (
+    let v1 = subst (λ x. 1 ≤ x) (sym c.latest.ensures) w.sound.counted.2 in
+    let v2 = subst (λ x. x ≤ 64) (sym c.latest.ensures) w.sound.counted.3 in (
       c.gained-leader.ensures.tells ∙ w.tells,
       c.gained-leader.ensures.proves ∙ w.proves,
       subst Certified (sym c.query-m.ensures) (certified_query c.latest.result c.args.rank n.set.bits n.tags v1 v2 c.requires.0 c.requires.1 c.at-count.ensures.byte),

@@ -21,9 +21,7 @@ invariant_of-row g c =
     let itself = ap (λ s. member s b) c.insert-suspects.ensures ∙ still_trusts w.state.voter.suspects.bits c.args.c b w.seated w.trusts c.requires.2 in
     record {
       seated = w.seated;
-      counted = w.counted;
-      boards = w.boards;
-      peopled = w.peopled;
+      sound = w.sound;
       keeps = c.suspecting-voter.ensures.keeps ∙ w.keeps;
       tells = w.tells;
       proves = w.proves;

@@ -17,4 +17,4 @@ unreachable-requires g c =
     let p = place_below v c.args.board r.0 in
     c.in-None-say.ensures.0
     (subst (λ a. Speakable b a 0 [] room sp) (sym c.deputy.ensures)
-    (can_deputy b w.state.views.latest c.in-Some.rank room sp c.board.ensures.below w.counted.2 w.counted.3 (omega (arith, r.1)) (omega (arith, r.1, p, size_le v)) c.requires.1 c.requires.2))
+    (can_deputy b w.state.views.latest c.in-Some.rank room sp c.board.ensures.below w.sound.counted.2 w.sound.counted.3 (omega (arith, r.1)) (omega (arith, r.1, p, size_le v)) c.requires.1 c.requires.2))

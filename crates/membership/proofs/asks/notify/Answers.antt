@@ -13,4 +13,4 @@ unreachable-requires g c =
     let sp = g.S.Scheme.spent c.args.scheme.now in
     c.in-None.ensures.0
     (subst (λ a. Speakable b a 0 [] room sp) (sym c.notice.ensures)
-    (can_notify b w.state.views.latest c.args.change room sp c.board.ensures.below w.counted.2 w.counted.3 c.requires.0 c.requires.1 c.requires.2))
+    (can_notify b w.state.views.latest c.args.change room sp c.board.ensures.below w.sound.counted.2 w.sound.counted.3 c.requires.0 c.requires.1 c.requires.2))

@@ -19,7 +19,7 @@ vote-requires g c =
       c.keeping-voter.ensures.keeps,
       ap (λ (v : Voter). v.suspects) c.keeping-voter.ensures.is,
       subst (λ a. Speakable w.state.board a 0 [] room sp) (sym c.ready-statement.ensures)
-          (can_ready w.state.board w.state.views.latest c.args.rank c.args.change room sp w.seated w.counted.2 w.counted.3 c.requires.2 c.requires.3 c.requires.4 c.requires.5 c.requires.6),
+          (can_ready w.state.board w.state.views.latest c.args.rank c.args.change room sp w.seated w.sound.counted.2 w.sound.counted.3 c.requires.2 c.requires.3 c.requires.4 c.requires.5 c.requires.6),
     )
 
 pub returns : goal.returns

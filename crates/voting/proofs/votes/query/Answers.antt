@@ -20,7 +20,7 @@ unreachable-requires g c =
     let room = length c.args.out.now in
     let sp = g.S.Scheme.spent c.args.scheme.now in
     let byte : shown_by o < 256 = subst (λ p. p < 256) c.shown_by.ensures.is c.shown_by.ensures.byte in
-    let told = can_tell b v k o ts room sp c.board.ensures.below w.counted.2 w.counted.3 c.requires.0 c.requires.1 w.keeps byte c.requires.2 c.requires.3 in
+    let told = can_tell b v k o ts room sp c.board.ensures.below w.sound.counted.2 w.sound.counted.3 c.requires.0 c.requires.1 w.keeps byte c.requires.2 c.requires.3 in
     let shown = subst (λ p. Speakable b (Act.last v k (kept_entry o.kept)) p (stored_tags p ts) room sp) (sym c.shown_by.ensures.is) told in
     c.in-None.ensures.0
     (subst (λ a. Speakable b a c.shown_by.result.bits (stored_tags c.shown_by.result.bits ts) room sp) (sym (c.last-statement.ensures ∙ ap (λ e. Act.last v k e) c.kept_entry.ensures)) shown)

@@ -14,5 +14,5 @@ vote-requires g c =
       c.lowered-voter.ensures.keeps ∙ w.keeps,
       ap (λ (v : Voter). v.suspects) c.lowered-voter.ensures.is,
       subst (λ a. Speakable w.state.board a 0 [] room sp) (sym c.ack-statement.ensures)
-          (can_ack w.state.board w.state.views.latest c.len-rank.result c.args.change room sp w.seated w.counted.2 w.counted.3 c.len-rank.ensures.some c.len-rank.ensures.few c.requires.0 c.requires.1 c.requires.2),
+          (can_ack w.state.board w.state.views.latest c.len-rank.result c.args.change room sp w.seated w.sound.counted.2 w.sound.counted.3 c.len-rank.ensures.some c.len-rank.ensures.few c.requires.0 c.requires.1 c.requires.2),
     )
