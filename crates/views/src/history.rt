@@ -7,14 +7,14 @@ use crate::view::{View, turned};
 use boards::Set;
 use codes::Refusal;
 
-// The most views that a row can define.
-const MOST: usize = 64;
+// The last view that a row can define.
+pub const LAST: u8 = 64;
 
 // The changes stand in an array with their number beside it, since the library allocates nothing: a row has room for all its views.
 #[derive(Clone, Copy)]
 pub struct History {
     pub first: Set,
-    pub changes: [u8; MOST],
+    pub changes: [u8; LAST as usize],
     pub latest: u8,
 }
 
@@ -33,7 +33,7 @@ impl Views {
         Views {
             history: History {
                 first: first.set(),
-                changes: [0; MOST],
+                changes: [0; LAST as usize],
                 latest: 1,
             },
         }
@@ -86,12 +86,12 @@ impl Views {
         ensures { Defines self.old.history c result self.new.history }
     {
         self.current().changed(c)?;
-        let latest = self.history.latest as usize;
-        if latest == MOST {
+        let latest = self.history.latest;
+        if latest == LAST {
             return Err(Refusal::Change);
         }
-        self.history.changes[latest] = c;
-        self.history.latest += 1;
+        self.history.changes[latest as usize] = c;
+        self.history.latest = latest + 1;
         Ok(())
     }
 }

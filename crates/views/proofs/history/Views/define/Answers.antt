@@ -11,5 +11,5 @@ invariant_of-self c =
     let sound = c.args.self.now.sound in
     let next = c.in_ok-changed.field-0 in
     let told = c.in_ok-changed.ensures in
-    let may = opens h c.args.c c.current.result.set.bits next.set.bits sound told.0 c.if-latest-eq-MOST.false c.current.ensures told.1 next.some in
+    let may = opens h c.args.c c.current.result.set.bits next.set.bits sound told.0 c.if-latest-eq-LAST.false c.current.ensures told.1 next.some in
     record { sound = grown_sound h c.args.c sound may }
