@@ -2,7 +2,7 @@
 // Order: docs/REFUSALS.md.
 ghost use Rattle.std.specs.Prelude.{◌≡◌};
 ghost use Rattle.wire.specs.Messages.{meaning};
-ghost use Rattle.row.specs.Refusals.{hear_refusal, out_refusal, in_refusal, delivers, Unless};
+ghost use Rattle.row.specs.Refusals.{hear_refusal, out_refusal, in_refusal, Unless};
 
 use crate::kinds::{answered, view_of};
 use codes::Refusal;
@@ -12,13 +12,11 @@ use members::ranks::inside;
 use members::sizes::misfit;
 use row::row::Row;
 use turns::{known, late, untimely};
+use views::history::LAST;
 use wire::message::Message;
 
 // The fewest bytes that a caller offers for what is sent.
 const LEAST: usize = 128;
-
-// The last view that a row can have.
-const LAST: u8 = 64;
 
 // Whether a row may take a message, or why not: `genuine` says whether every tag of it is good, `spent` whether the scheme is.
 pub fn may_hear(
@@ -76,16 +74,6 @@ pub fn may_ask_out(row: &Row, c: u8, room: usize, spent: bool) -> Result<(), Ref
     }
 }
 
-// Whether the delivery view is the latest view.
-fn delivers(row: &Row, delivery: Option<u8>) -> bool
-    ensures { result ≡ delivers row.now.state delivery }
-{
-    match delivery {
-        Some(view) => view == row.latest(),
-        None => false,
-    }
-}
-
 // Whether a row may ask for board c to join, or why not: c is no member, the delivery view is the latest, and the manager is not suspect.
 pub fn may_ask_in(
     row: &Row,
@@ -104,7 +92,7 @@ pub fn may_ask_in(
         Err(Refusal::Member)
     } else if row.latest() >= LAST || row.view().has(c) {
         Err(Refusal::Change)
-    } else if !delivers(row, delivery) || row.state.voter.suspects.has(row.manager()) {
+    } else if delivery != Some(row.latest()) || row.state.voter.suspects.has(row.manager()) {
         Err(Refusal::Turn)
     } else if spent {
         Err(Refusal::Spent)

@@ -3,7 +3,7 @@
 ghost use Rattle.std.specs.Prelude.{◌≡◌, ◌<◌, ◌≤◌, true, false, MatchResult};
 ghost use Rattle.boards.specs.Boards.{member};
 ghost use Rattle.codes.specs.declared.Refusal.TheVariants.{Board};
-ghost use Rattle.views.specs.Histories.{begun, members_of, Counted, ByBoards, Peopled};
+ghost use Rattle.views.specs.Histories.{begun, members_of, Sound};
 ghost use Rattle.row.specs.States.{fresh, group, latest, manager};
 ghost use Rattle.row.specs.Rows.{keeps, tells, proves};
 
@@ -18,9 +18,7 @@ use views::view::View;
 pub struct Row {
     pub state: State,
     ghost seated: { state.board < 8 },
-    ghost counted: { Counted state.views },
-    ghost boards: { ByBoards state.views },
-    ghost peopled: { Peopled state.views },
+    ghost sound: { Sound state.views },
     ghost keeps: { keeps state.voter ≡ true },
     ghost tells: { tells state.leader ≡ true },
     ghost proves: { proves state.leader ≡ true },

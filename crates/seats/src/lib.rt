@@ -15,10 +15,7 @@ use wire::message::Entry;
 pub fn seat(row: &Row, rank: u8) -> Set
     ensures { result.bits ≡ only (seat (group row.now.state) rank) }
 {
-    match row.view().at(rank) {
-        Some(board) => Set::only(board),
-        None => Set::EMPTY,
-    }
+    row.view().at(rank).map_or(Set::EMPTY, Set::only)
 }
 
 // The change that the lowest earlier rank calls for: its own, or the manager where there is none.
@@ -33,18 +30,9 @@ pub fn called_for(row: &Row, low: Entry) -> u8
     }
 }
 
-// The set of a byte.
-pub fn set_of(bits: u8) -> Set
-    ensures is { result.bits ≡ bits }
-    ensures byte { result.bits < 256 }
-{
-    Set { bits }
-}
-
 // A set with one board more.
 pub fn insert(set: Set, board: u8) -> Set
     ensures { result.bits ≡ insert set.bits board }
 {
-    let old = set_of(set.bits);
-    set_of(old.with(board).bits)
+    set.with(board)
 }

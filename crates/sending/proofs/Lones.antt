@@ -261,22 +261,22 @@ module _ {S : Type 0} (g : Ghosts S) where
   pub can_ack : (w : Row) (b v k c : ℕ) (s : S) (out : List ℕ) → b ≡ w.state.board → v ≡ latest w.state → 1 ≤ k → k ≤ 8 → c < 8 → Able g s out → Speakable g b (Act.ack v k c) 0 [] s out
   can_ack w b v k c s out d e k1 k2 hc able =
       let hb : b < 8 = omega (arith, d, w.seated) in
-      record { seated = hb; formed = λ t. formed_ack v k c b t (omega (arith, e, w.counted.2)) (omega (arith, e, w.counted.3)) k1 k2 hc hb; able = able }
+      record { seated = hb; formed = λ t. formed_ack v k c b t (omega (arith, e, w.sound.counted.2)) (omega (arith, e, w.sound.counted.3)) k1 k2 hc hb; able = able }
 
   pub can_ready : (w : Row) (b v k c : ℕ) (s : S) (out : List ℕ) → b ≡ w.state.board → v ≡ latest w.state → 1 ≤ k → k ≤ 8 → c < 8 → Able g s out → Speakable g b (Act.ready v k c) 0 [] s out
   can_ready w b v k c s out d e k1 k2 hc able =
       let hb : b < 8 = omega (arith, d, w.seated) in
-      record { seated = hb; formed = λ t. formed_ready v k c b t (omega (arith, e, w.counted.2)) (omega (arith, e, w.counted.3)) k1 k2 hc hb; able = able }
+      record { seated = hb; formed = λ t. formed_ready v k c b t (omega (arith, e, w.sound.counted.2)) (omega (arith, e, w.sound.counted.3)) k1 k2 hc hb; able = able }
 
   pub can_notify : (w : Row) (b v c : ℕ) (s : S) (out : List ℕ) → b ≡ w.state.board → v ≡ latest w.state → c < 8 → Able g s out → Speakable g b (Act.notify v c) 0 [] s out
   can_notify w b v c s out d e hc able =
       let hb : b < 8 = omega (arith, d, w.seated) in
-      record { seated = hb; formed = λ t. formed_notify v c b t (omega (arith, e, w.counted.2)) (omega (arith, e, w.counted.3)) hc hb; able = able }
+      record { seated = hb; formed = λ t. formed_notify v c b t (omega (arith, e, w.sound.counted.2)) (omega (arith, e, w.sound.counted.3)) hc hb; able = able }
 
   pub can_deputy : (w : Row) (b v k : ℕ) (s : S) (out : List ℕ) → b ≡ w.state.board → v ≡ latest w.state → 1 ≤ k → k ≤ 8 → Able g s out → Speakable g b (Act.deputy v k) 0 [] s out
   can_deputy w b v k s out d e k1 k2 able =
       let hb : b < 8 = omega (arith, d, w.seated) in
-      record { seated = hb; formed = λ t. formed_deputy v k b t (omega (arith, e, w.counted.2)) (omega (arith, e, w.counted.3)) k1 k2 hb; able = able }
+      record { seated = hb; formed = λ t. formed_deputy v k b t (omega (arith, e, w.sound.counted.2)) (omega (arith, e, w.sound.counted.3)) k1 k2 hb; able = able }
 
   -- What a board can say goes out.
   pub goes_out : (b to : ℕ) (a : Act) (p : ℕ) (ak out : List ℕ) (s : S) (r : Option Sent) (s2 : S) (out2 : List ℕ) → Speakable g b a p ak s out → Speaks g b to a p ak out s r s2 out2 → IsSome r

@@ -4,43 +4,37 @@ ghost use Rattle.views.specs.Groups.{ToggleTurnsOne};
 ghost use Rattle.views.specs.Laws.{ViewsStay, LatestRisesByOne, ViewsHaveMembers, OneBoardChanges, NextByChange};
 
 // A change turns its own board, and no other.
-pub fn toggle_turns_one() -> u8
+#[tactic(auto, using(crate::proofs::Groups::turns_one))]
+pub fn toggle_turns_one()
     ensures { ToggleTurnsOne }
-{
-    0
-}
+{}
 
 // A view once defined stays as it is.
-pub fn views_stay() -> u8
+#[tactic(auto, using(crate::proofs::Calls::views_stay))]
+pub fn views_stay()
     ensures { ViewsStay }
-{
-    0
-}
+{}
 
 // The latest view only rises, by one.
-pub fn latest_rises_by_one() -> u8
+#[tactic(auto, using(crate::proofs::Calls::rises_by_one))]
+pub fn latest_rises_by_one()
     ensures { LatestRisesByOne }
-{
-    0
-}
+{}
 
 // No view is ever without a member.
-pub fn views_have_members() -> u8
+#[tactic(auto, using(crate::proofs::Calls::views_have_members))]
+pub fn views_have_members()
     ensures { ViewsHaveMembers }
-{
-    0
-}
+{}
 
 // From each view to the next one board changed.
-pub fn one_board_changes() -> u8
+#[tactic(auto, using(crate::proofs::Calls::one_board_changes))]
+pub fn one_board_changes()
     ensures { OneBoardChanges }
-{
-    0
-}
+{}
 
 // The view that a call defines has the members of the latest but for its change.
-pub fn next_by_change() -> u8
+#[tactic(auto, using(crate::proofs::Calls::next_by_change))]
+pub fn next_by_change()
     ensures { NextByChange }
-{
-    0
-}
+{}

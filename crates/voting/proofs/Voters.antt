@@ -79,6 +79,6 @@ can_tell g w b v k p e ts s out hb hv he hp byte k1 k2 able =
     let t : Told e p = subst (λ x. Told x p) (sym he) (subst (Told (kept_entry o.kept)) (sym hp) t0) in
     record {
       seated = seated;
-      formed = λ x. formed_last v k b e p ts x (omega (arith, hv, w.counted.2)) (omega (arith, hv, w.counted.3)) k1 k2 seated t.entry t.byte t.proof;
+      formed = λ x. formed_last v k b e p ts x (omega (arith, hv, w.sound.counted.2)) (omega (arith, hv, w.sound.counted.3)) k1 k2 seated t.entry t.byte t.proof;
       able = able;
     }

@@ -17,6 +17,6 @@ invariant_of-row-clause-proves c = c.gained-leader.ensures.proves ∙ c.args.row
 pub unwrap-requires : goal.unwrap-requires
 unwrap-requires c =
     let w = c.args.row.now in
-    let v1 = subst (λ x. 1 ≤ x) (sym c.latest.ensures) w.counted.2 in
-    let v2 = subst (λ x. x ≤ 64) (sym c.latest.ensures) w.counted.3 in
+    let v1 = subst (λ x. 1 ≤ x) (sym c.latest.ensures) w.sound.counted.2 in
+    let v2 = subst (λ x. x ≤ 64) (sym c.latest.ensures) w.sound.counted.3 in
     certified_posted _ _ _ c.post.result _ (subst Certified (sym c.certificate-m.ensures) (certified c.args.tally c.latest.result c.at-full.result c.requires.range v1 v2 c.at-full.ensures.byte)) c.requires.room c.post.ensures

@@ -13,4 +13,4 @@ pub invariant_of-row : goal.invariant_of-row
 unfolding keeps
 invariant_of-row g c =
     let w = c.args.row.now in
-    (tt, tt, (w.seated, (w.counted, (w.boards, (w.peopled, (w.keeps, (w.tells, (w.proves, (still_trusts w c.args.c _ c.insert-suspects.ensures c.requires.asked.2, tt)))))))))
+    (tt, tt, (w.seated, (w.sound, (w.keeps, (w.tells, (w.proves, (still_trusts w c.args.c _ c.insert-suspects.ensures c.requires.asked.2, tt)))))))
