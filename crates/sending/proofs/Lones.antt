@@ -30,80 +30,13 @@ use Rattle.sending.specs.Sends.{Able, GoesOut, SignsFor, Speakable, Speaks}
 
 -- With another tag a formed lone message is formed.
 pub retag : (a : Act) (b p : ℕ) (ak : List ℕ) (x y : ℕ) → Formed (lone a b p ak (tag_bytes x)) → Formed (lone a b p ak (tag_bytes y))
-retag (Act.notify v c) b p ak x y f = let h = held f in
-    stand message _ Grammar.done (h.0, h.1, h.2, (h.3.0, h.3.1, h.3.2, (h.3.3.0, h.3.3.1, h.3.3.2, (h.3.3.3.0, h.3.3.3.1, h.3.3.3.2, (h.3.3.3.3.0, h.3.3.3.3.1, h.3.3.3.3.2, (refl, tag_fits y, refl))))))
-retag (Act.ack v r c) b p ak x y f = let h = held f in let q = h.3.3.3.3 in
-    stand message _ Grammar.done (h.0, h.1, h.2, (h.3.0, h.3.1, h.3.2, (h.3.3.0, h.3.3.1, h.3.3.2, (h.3.3.3.0, h.3.3.3.1, h.3.3.3.2, (q.0, q.1, q.2, (q.3.0, q.3.1, q.3.2, (refl, tag_fits y, refl)))))))
-retag (Act.ready v r c) b p ak x y f = let h = held f in let q = h.3.3.3.3 in
-    stand message _ Grammar.done (h.0, h.1, h.2, (h.3.0, h.3.1, h.3.2, (h.3.3.0, h.3.3.1, h.3.3.2, (h.3.3.3.0, h.3.3.3.1, h.3.3.3.2, (q.0, q.1, q.2, (q.3.0, q.3.1, q.3.2, (refl, tag_fits y, refl)))))))
-retag (Act.deputy v r) b p ak x y f = let h = held f in
-    stand message _ Grammar.done (h.0, h.1, h.2, (h.3.0, h.3.1, h.3.2, (h.3.3.0, h.3.3.1, h.3.3.2, (h.3.3.3.0, h.3.3.3.1, h.3.3.3.2, (refl, tag_fits y, refl)))))
-retag (Act.last v r e) b p ak x y f = let h = held f in let q = h.3.3.3.3 in
-    stand message _ Grammar.done (
-      h.0,
-      h.1,
-      h.2,
-      (
-        h.3.0,
-        h.3.1,
-        h.3.2,
-        (
-          h.3.3.0,
-          h.3.3.1,
-          h.3.3.2,
-          (
-            h.3.3.3.0,
-            h.3.3.3.1,
-            h.3.3.3.2,
-            (q.0, q.1, q.2, (q.3.0, q.3.1, q.3.2, (q.3.3.0, q.3.3.1, q.3.3.2, (refl, tag_fits y, q.3.3.3.2)))),
-          ),
-        ),
-      ),
-    )
-retag (Act.init v s n k w) b p ak x y f = let h = held f in let q = h.3.3.3.3 in
-    stand message _ Grammar.done (
-      h.0,
-      h.1,
-      h.2,
-      (
-        h.3.0,
-        h.3.1,
-        h.3.2,
-        (
-          h.3.3.0,
-          h.3.3.1,
-          h.3.3.2,
-          (
-            h.3.3.3.0,
-            h.3.3.3.1,
-            h.3.3.3.2,
-            (q.0, q.1, q.2, (q.3.0, q.3.1, q.3.2, (q.3.3.0, q.3.3.1, (q.3.3.2.0, q.3.3.2.1, q.3.3.2.2, (refl, tag_fits y, refl))))),
-          ),
-        ),
-      ),
-    )
-retag (Act.echo v s n k w) b p ak x y f = let h = held f in let q = h.3.3.3.3 in
-    stand message _ Grammar.done (
-      h.0,
-      h.1,
-      h.2,
-      (
-        h.3.0,
-        h.3.1,
-        h.3.2,
-        (
-          h.3.3.0,
-          h.3.3.1,
-          h.3.3.2,
-          (
-            h.3.3.3.0,
-            h.3.3.3.1,
-            h.3.3.3.2,
-            (q.0, q.1, q.2, (q.3.0, q.3.1, q.3.2, (q.3.3.0, q.3.3.1, (q.3.3.2.0, q.3.3.2.1, q.3.3.2.2, (refl, tag_fits y, refl))))),
-          ),
-        ),
-      ),
-    )
+retag (Act.notify v c) b p ak x y f = let h = held f in stand message _ Grammar.done (search tag_fits)
+retag (Act.ack v r c) b p ak x y f = let h = held f in stand message _ Grammar.done (search tag_fits)
+retag (Act.ready v r c) b p ak x y f = let h = held f in stand message _ Grammar.done (search tag_fits)
+retag (Act.deputy v r) b p ak x y f = let h = held f in stand message _ Grammar.done (search tag_fits)
+retag (Act.last v r e) b p ak x y f = let h = held f in stand message _ Grammar.done (search tag_fits)
+retag (Act.init v s n k w) b p ak x y f = let h = held f in stand message _ Grammar.done (search tag_fits)
+retag (Act.echo v s n k w) b p ak x y f = let h = held f in stand message _ Grammar.done (search tag_fits)
 
 -- No lone message has more than 128 bytes.
 pub lone_short : (a : Act) (b p : ℕ) (ak : List ℕ) (x : ℕ) → Formed (lone a b p ak (tag_bytes x)) → length (form (lone a b p ak (tag_bytes x))) ≤ 128
@@ -132,129 +65,37 @@ lone_allowed (Act.last v r e) b p ak x f =
 lone_allowed (Act.init v s n k w) b p ak x f = signed_allowed (Msg.init v s n k w (tag_bytes x)) s f (itself s (held f).3.3.1)
 lone_allowed (Act.echo v s n k w) b p ak x f = signed_allowed (Msg.echo v s n k w b (tag_bytes x)) b f (itself b (speaker_below b (held f).3.3.3.3.3.3.2.2))
 
-only_byte : (b : ℕ) → only b < 256
+pub only_byte : (b : ℕ) → only b < 256
 unfolding only
 only_byte b = omega (arith, div-le_self 128 (2 ^ b))
 
 pub within : (a b v : ℕ) → a ≤ v → v ≤ b → from_to a b v ≡ true
 within a b v l m = and_from _ _ (le-leb a v l) (le-leb v b m)
 
+-- What the fields of a message are checked by.
+pub ruleset fields = (arith, within, only_byte, lone_below, tag_fits, stored_long, stored_fits)
+
 formed_notify : (v c b t : ℕ) → 1 ≤ v → v ≤ 64 → c < 8 → b < 8 → Formed (Msg.notify v c b (tag_bytes t))
 formed_notify v c b t v1 v2 hc hb =
-    stand message _ Grammar.done (
-      refl,
-      omega arith,
-      refl,
-      (
-        refl,
-        omega arith,
-        within 1 64 v v1 v2,
-        (
-          refl,
-          omega arith,
-          refl,
-          (
-            refl,
-            omega arith,
-            within 0 7 c (omega arith) (omega arith),
-            (refl, only_byte b, lone_below b hb, (refl, tag_fits t, refl)),
-          ),
-        ),
-      ),
-    )
+    stand message _ Grammar.done (search fields)
 
 formed_ack : (v k c b t : ℕ) → 1 ≤ v → v ≤ 64 → 1 ≤ k → k ≤ 8 → c < 8 → b < 8 → Formed (Msg.ack v k c b (tag_bytes t))
 formed_ack v k c b t v1 v2 k1 k2 hc hb =
-    stand message _ Grammar.done (
-      refl,
-      omega arith,
-      refl,
-      (
-        refl,
-        omega arith,
-        within 1 64 v v1 v2,
-        (
-          refl,
-          omega arith,
-          within 1 8 k k1 k2,
-          (
-            refl,
-            omega arith,
-            refl,
-            (refl, omega arith, within 0 7 c (omega arith) (omega arith), (refl, only_byte b, lone_below b hb, (refl, tag_fits t, refl))),
-          ),
-        ),
-      ),
-    )
+    stand message _ Grammar.done (search fields)
 
 formed_ready : (v k c b t : ℕ) → 1 ≤ v → v ≤ 64 → 1 ≤ k → k ≤ 8 → c < 8 → b < 8 → Formed (Msg.ready v k c b (tag_bytes t))
 formed_ready v k c b t v1 v2 k1 k2 hc hb =
-    stand message _ Grammar.done (
-      refl,
-      omega arith,
-      refl,
-      (
-        refl,
-        omega arith,
-        within 1 64 v v1 v2,
-        (
-          refl,
-          omega arith,
-          within 1 8 k k1 k2,
-          (
-            refl,
-            omega arith,
-            refl,
-            (refl, omega arith, within 0 7 c (omega arith) (omega arith), (refl, only_byte b, lone_below b hb, (refl, tag_fits t, refl))),
-          ),
-        ),
-      ),
-    )
+    stand message _ Grammar.done (search fields)
 
 formed_deputy : (v k b t : ℕ) → 1 ≤ v → v ≤ 64 → 1 ≤ k → k ≤ 8 → b < 8 → Formed (Msg.deputy v k b (tag_bytes t))
 formed_deputy v k b t v1 v2 k1 k2 hb =
-    stand message _ Grammar.done (
-      refl,
-      omega arith,
-      refl,
-      (
-        refl,
-        omega arith,
-        within 1 64 v v1 v2,
-        (
-          refl,
-          omega arith,
-          within 1 8 k k1 k2,
-          (refl, only_byte b, lone_below b hb, (refl, tag_fits t, refl)),
-        ),
-      ),
-    )
+    stand message _ Grammar.done (search fields)
 
 -- A last is formed with an entry that is allowed and a proof that is there exactly if the entry has an earlier rank.
 pub formed_last : (v k b : ℕ) (e : Entry) (p : ℕ) (ts : List ℕ) (t : ℕ) → 1 ≤ v → v ≤ 64 → 1 ≤ k → k ≤ 8 → b < 8 → EntryAllowed e → p < 256
     → from_to (cond (eqb e.earlier 0) 0 1) (cond (eqb e.earlier 0) 0 255) p ≡ true → Formed (Msg.last v k b (record { entry = e; tag = tag_bytes t }) p (stored_tags p ts))
 formed_last v k b e p ts t v1 v2 k1 k2 hb a byte o =
-    stand message _ Grammar.done (
-      refl,
-      omega arith,
-      refl,
-      (
-        refl,
-        omega arith,
-        within 1 64 v v1 v2,
-        (
-          refl,
-          omega arith,
-          within 1 8 k k1 k2,
-          (
-            refl,
-            only_byte b,
-            lone_below b hb,
-            (refl, a.rank_fits, a.rank_allowed, (refl, omega arith, refl, (refl, a.change_fits, a.change_allowed, (refl, tag_fits t, (refl, byte, o, (stored_long p ts, stored_fits p ts, refl)))))),
-          ),
-        ),
-      ),
-    )
+    stand message _ Grammar.done (search fields)
 
 -- What a row that is able can say in its latest view: an ack, a ready, a notify, a deputy.
 module _ {S : Type 0} (g : Ghosts S) where

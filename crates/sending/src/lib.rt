@@ -29,6 +29,7 @@ pub fn is_formed(m: &Message<'_>) -> bool
 }
 
 // Writes a message to these boards; none if it is not formed or there is no room for it, and then no byte changes.
+// An `Option`, with no error: every caller knows that neither holds, and none asks which.
 pub fn post(m: &Message<'_>, to: Set, out: &mut [u8]) -> Option<Sent>
     ensures { GoesOut to.bits (meaning m.now) out.old result out.new }
 {
@@ -37,6 +38,7 @@ pub fn post(m: &Message<'_>, to: Set, out: &mut [u8]) -> Option<Sent>
 }
 
 // The lone message of a statement: its speaker, in a last what it has to show, and the tag.
+// Not a `From`: a message takes these three besides the statement.
 fn lone<'a>(statement: &Statement<'a>, board: u8, shown: &'a Count, tag: u64) -> Message<'a>
     ensures { meaning result ≡ lone (said statement.now) board shown.now.set.bits (count_tags shown.now) (tag_bytes tag) }
 {

@@ -23,6 +23,8 @@ use signed::lowest_entry;
 use wire::message::Message;
 use words::statement::Statement;
 
+// Row, scheme and bytes stay three parameters: of a struct of three `&mut` each contract would have to name what lies behind every field.
+
 // An ack for a change.
 #[tactic(auto, unfolding(row::specs::Rows::keeps))]
 fn ack<S: Scheme>(row: &mut Row, scheme: &mut S, rank: u8, change: u8, out: &mut [u8]) -> Sent
