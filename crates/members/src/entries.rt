@@ -41,7 +41,7 @@ fn entry_of(statement: Statement<'_>) -> Entry
 fn entry_by(m: &Message<'_>, board: u8) -> Option<Entry>
     ensures { result ≡ entry_by (meaning m.now) board }
 {
-    statement(m, board).map(|s| entry_of(s))
+    statement(m, board).map(entry_of)
 }
 
 // Whether some board told an entry whose earlier rank is misplaced.

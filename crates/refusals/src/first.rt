@@ -1,5 +1,5 @@
 // Whether a call at a row goes on: the first reason of its list that holds refuses it.
-// Order: docs/REFUSALS.md.
+// Order: docs/REFUSALS.md. Each list stands as one chain of tests, as it stands there; early returns would say no more.
 ghost use Rattle.std.specs.Prelude.{◌≡◌};
 ghost use Rattle.wire.specs.Messages.{meaning};
 ghost use Rattle.row.specs.Refusals.{hear_refusal, out_refusal, in_refusal, Unless};

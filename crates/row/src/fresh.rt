@@ -2,12 +2,11 @@
 // Rules: docs/RULES.md, "The row".
 ghost use Rattle.std.specs.Prelude.{◌≡◌, ℕ, true, false};
 ghost use Rattle.boards.specs.Boards.{member, size};
-ghost use Rattle.row.specs.States.{latest_members, new_voter, new_leader};
+ghost use Rattle.row.specs.States.{new_voter, new_leader};
 ghost use Rattle.row.specs.Rows.{keeps, tells, proves};
 
 use crate::state::{Count, Leader, Stand, Voter};
 use boards::Set;
-use views::history::Views;
 use views::view::View;
 use wire::message::Entry;
 
@@ -16,14 +15,8 @@ const NO_ENTRY: Entry = Entry {
     change: 0,
 };
 
-// The latest view.
-pub(crate) fn latest_view(views: &Views) -> View
-    ensures { result.set.bits ≡ latest_members views.now.history }
-{
-    views.current()
-}
-
 // The floor is three times the members, nobody is suspect and nothing is kept.
+#[tactic(auto, using(boards::proofs::Members::member_none), unfolding(crate::specs::Rows::keeps))]
 pub(crate) fn voter(view: &View) -> Voter
     ensures is { result ≡ new_voter (size view.now.set.bits) }
     ensures keeps { keeps result ≡ true }
@@ -38,6 +31,7 @@ pub(crate) fn voter(view: &View) -> Voter
 }
 
 // Idle, and nothing counted.
+#[tactic(auto, unfolding(crate::specs::Rows::tells, crate::specs::Rows::proves, boards::specs::Boards::every, boards::specs::Boards::member))]
 pub(crate) fn leader() -> Leader
     ensures is { result ≡ new_leader }
     ensures tells { tells result ≡ true }

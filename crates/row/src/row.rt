@@ -7,7 +7,7 @@ ghost use Rattle.views.specs.Histories.{begun, members_of, Sound};
 ghost use Rattle.row.specs.States.{fresh, group, latest, manager};
 ghost use Rattle.row.specs.Rows.{keeps, tells, proves};
 
-use crate::fresh::{latest_view, leader, voter};
+use crate::fresh::{leader, voter};
 use crate::state::State;
 use boards::Set;
 use codes::Refusal;
@@ -43,11 +43,12 @@ impl Row {
         Row::fresh(self.board(), views)
     }
 
+    #[tactic(auto, unfolding(crate::specs::States::latest_members))]
     fn fresh(board: u8, views: Views) -> Row
         requires { board < 8 }
         ensures { result.state ≡ fresh board views.history }
     {
-        let view = latest_view(&views);
+        let view = views.current();
         Row {
             state: State {
                 board,
@@ -74,10 +75,11 @@ impl Row {
     }
 
     // Its latest view.
+    #[tactic(auto, unfolding(crate::specs::States::latest_members))]
     pub fn view(&self) -> View
         ensures { result.set.bits ≡ group self.now.state }
     {
-        latest_view(&self.views())
+        self.views().current()
     }
 
     // The manager of its latest view.
@@ -95,6 +97,7 @@ impl Row {
         self.views().members(v)
     }
 
+    // Its views: the state has them as plain values, so that specs and proofs compare states whole; the row knows that they are sound.
     fn views(&self) -> Views
         ensures { result.history ≡ self.now.state.views }
     {

@@ -30,7 +30,7 @@ pub fn called_for(row: &Row, low: Entry) -> u8
     }
 }
 
-// A set with one board more.
+// A set with one board more, as the equation that specs speak of; a set's own call tells it member by member.
 pub fn insert(set: Set, board: u8) -> Set
     ensures { result.bits ≡ insert set.bits board }
 {
