@@ -1,6 +1,6 @@
 -- A reason that comes before TAG and SPENT is the first one whatever the tags and the scheme are.
 -- Of a message that is taken no reason holds.
-use Rattle.std.proofs.Common.{◌≡◌, ℕ, Bool, true, false, cond, not, ◌&&◌, List, [], ◌∷◌, is_some, Some, None, Option, refl, arith}
+use Rattle.std.proofs.Common.{◌≡◌, ℕ, Bool, true, false, cond, not, ◌&&◌, List, [], ◌∷◌, is_some, Some, None, Option, refl, ap}
 use Rattle.std.proofs.lemmas.Bool.{both_ways}
 use Rattle.codes.specs.declared.Refusal.{Refusal}
 use Rattle.codes.specs.declared.Refusal.TheVariants.{Out, View, Member, Change, Turn, Late, Known, Size, Split, Tag, Spent}
@@ -8,7 +8,21 @@ use Rattle.wire.specs.Messages.{Msg}
 use Rattle.row.specs.declared.state.State.{State}
 use Rattle.row.specs.Refusals.{first_of, short, other_view, stranger, barred, untimely, late, known, misfit, split, answered, hear_refusal}
 
--- The reasons before the tags, and those after them.
+-- The reasons before the tags, in their order, and what comes after them.
+abbrev reasons : List (Bool × Refusal) → Option Refusal → Option Refusal
+reasons [] x = x
+reasons (r ∷ rs) x = cond r.0 (Some r.1) (reasons rs x)
+
+-- What one of them answers, it answers whatever comes after them.
+pick : (b : Bool) (e d : Refusal) (x y : Option Refusal) → (x ≡ Some e → y ≡ Some e) → cond b (Some d) x ≡ Some e → cond b (Some d) y ≡ Some e
+pick true e d x y h s = s
+pick false e d x y h s = h s
+
+before : (rs : List (Bool × Refusal)) (x y : Option Refusal) (e : Refusal) → is_some x ≡ false → reasons rs x ≡ Some e → reasons rs y ≡ Some e
+before [] x y e n s = absurd (both_ways (is_some x) n (ap is_some s))
+before (r ∷ rs) x y e n s = pick r.0 e r.1 (reasons rs x) (reasons rs y) (before rs x y e n) s
+
+-- The reasons after them.
 abbrev tail_of : Bool → Bool → Bool → Option Refusal
 tail_of w genuine spent = first_of ((not genuine, Tag) ∷ (w && spent, Spent) ∷ [])
 
@@ -16,27 +30,13 @@ no_tail : (w : Bool) → is_some (tail_of w true false) ≡ false
 no_tail true = refl
 no_tail false = refl
 
--- Reasons in their order, and what comes after them.
-abbrev reasons : List (Bool × Refusal) → Option Refusal → Option Refusal
-reasons [] x = x
-reasons (r ∷ rs) x = cond r.0 (Some r.1) (reasons rs x)
-
--- What some reason answers, it answers before anything else.
-pick : (b : Bool) (e : Refusal) (x y : Option Refusal) → (is_some x ≡ true → x ≡ y) → is_some (cond b (Some e) x) ≡ true → cond b (Some e) x ≡ cond b (Some e) y
-pick true e x y h s = refl
-pick false e x y h s = h s
-
-before : (rs : List (Bool × Refusal)) (x y : Option Refusal) → is_some x ≡ false → is_some (reasons rs x) ≡ true → reasons rs x ≡ reasons rs y
-before [] x y n s = absurd (both_ways (is_some x) n s)
-before (r ∷ rs) x y n s = pick r.0 r.1 (reasons rs x) (reasons rs y) (before rs x y n) s
-
 -- A reason that holds whatever the tags are.
-pub early : (s : State) (m : Msg) (room : ℕ) (genuine spent : Bool) → is_some (hear_refusal s m room true false) ≡ true → hear_refusal s m room true false ≡ hear_refusal s m room genuine spent
-early s m room genuine spent h =
+pub early : (s : State) (m : Msg) (room : ℕ) (genuine spent : Bool) (e : Refusal) → hear_refusal s m room true false ≡ Some e → hear_refusal s m room genuine spent ≡ Some e
+early s m room genuine spent e =
     before (
     (short room, Out) ∷ (other_view s m, View) ∷ (stranger s m, Member) ∷ (barred s m, Change) ∷ (untimely s m, Turn) ∷ (late s m, Late)
     ∷ (known s m, Known) ∷ (misfit s m, Size) ∷ (split m, Split) ∷ [])
-    (tail_of (answered m) true false) (tail_of (answered m) genuine spent) (no_tail (answered m)) h
+    (tail_of (answered m) true false) (tail_of (answered m) genuine spent) e (no_tail (answered m))
 
 -- What a message passed that is taken.
 pub record Passed (s : State) (m : Msg) (room : ℕ) (genuine spent : Bool) : Type 0 where
@@ -52,8 +52,9 @@ pub record Passed (s : State) (m : Msg) (room : ℕ) (genuine spent : Bool) : Ty
   pub good : not genuine ≡ false
   pub unspent : (answered m && spent) ≡ false
 
-unheld : (b : Bool) (e : Refusal) (x : Option Refusal) → cond b (Some e) x ≡ None → (b ≡ false) × (x ≡ None)
-unheld true e x h = let z : ◌≡◌ {A = ℕ} 0 1 = cc in absurd (omega arith)
+-- Where no reason holds, the first of them does not, nor any after it.
+pub unheld : (b : Bool) (e : Refusal) (x : Option Refusal) → cond b (Some e) x ≡ None → (b ≡ false) × (x ≡ None)
+unheld true e x h = (cc, cc)
 unheld false e x h = (refl, h)
 
 pub passed : (s : State) (m : Msg) (room : ℕ) (genuine spent : Bool) → hear_refusal s m room genuine spent ≡ None → Passed s m room genuine spent

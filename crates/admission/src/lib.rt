@@ -2,17 +2,29 @@
 // Order: docs/REFUSALS.md. A value that no bytes spell, and a message of another layer, have no answer here.
 #![tactic(auto)]
 
+ghost use Rattle.checks.specs.Checks.{genuine};
 ghost use Rattle.wire.specs.Messages.{meaning};
+ghost use Rattle.wire.specs.Format.{Formed};
+ghost use Rattle.row.specs.Refusals.{hear_refusal, Unless};
 ghost use Rattle.admission.specs.Judged.{Judged};
 
 use checks::all_good;
 use codes::Refusal;
-use refusals::first::hear_refusal;
+use refusals::first::may_hear;
 use refusals::kinds::of_group;
 use row::row::Row;
 use schemes::Scheme;
 use sending::is_formed;
 use wire::message::Message;
+
+// Whether the row takes a message, or why not: the tags are looked at only where no reason before them holds.
+fn may_take<S: Scheme>(row: &Row, scheme: &S, m: &Message<'_>, room: usize) -> Result<(), Refusal>
+    requires { Formed (meaning m.now) }
+    ensures { Unless (hear_refusal row.now.state (meaning m.now) room (genuine (S.good scheme.now) (meaning m.now)) (S.spent scheme.now)) result }
+{
+    may_hear(row, m, room, true, false)?;
+    may_hear(row, m, room, all_good(scheme, m), scheme.is_spent())
+}
 
 // Why the row does not take the message, or that it does; nothing if the message is not formed or of another layer.
 pub fn judge<S: Scheme>(
@@ -20,15 +32,12 @@ pub fn judge<S: Scheme>(
     scheme: &S,
     m: &Message<'_>,
     room: usize,
-) -> Option<Option<Refusal>>
+) -> Option<Result<(), Refusal>>
     ensures { Judged S.Scheme row.now.state scheme.now (meaning m.now) room result }
 {
-    if !is_formed(m) || !of_group(m) {
-        return None;
+    if is_formed(m) && of_group(m) {
+        Some(may_take(row, scheme, m, room))
+    } else {
+        None
     }
-    let cheap = hear_refusal(row, m, room, true, false);
-    if cheap.is_some() {
-        return Some(cheap);
-    }
-    Some(hear_refusal(row, m, room, all_good(scheme, m), scheme.is_spent()))
 }

@@ -7,12 +7,12 @@ use Rattle.boards.proofs.Sets.{with_old, with_new}
 use Rattle.wire.specs.declared.message.Entry.{Entry}
 use Rattle.wire.specs.Messages.{none}
 use Rattle.row.specs.declared.state.Count.{Count}
-use Rattle.row.specs.declared.state.Stand.{Stand}
 use Rattle.row.specs.declared.state.Leader.{Leader}
+use Rattle.row.specs.declared.state.Slot.{Slot}
 use Rattle.row.specs.States.{insert, no_count, counted, count_at}
 use Rattle.boards.specs.Boards.{every}
 use Rattle.row.specs.Rows.{tells, proves, alike, allowed, nothing, tellers}
-use Rattle.row.specs.Effects.{gained, told, undercuts, standing}
+use Rattle.row.specs.Effects.{told, undercuts}
 use Rattle.boards.proofs.Chosen.{every_true, every_at, every_false}
 use Rattle.row.proofs.Picked.{inserted}
 use Rattle.counting.specs.Counts.{Tellable}
@@ -23,23 +23,12 @@ tells_by c es low =
     every (λ b. not (member c.set.bits b) || allowed (get_or es b none)) 8
     && (allowed low && alike (nothing low) (every (λ b. not (member c.set.bits b) || nothing (get_or es b none)) 8))
 
-pub gained_tells : (l : Leader) (i b t : ℕ) → i < 11 → tells (gained l i b t) ≡ tells l
+-- A count before that of the lasts changes nothing of what is told.
+pub gained_tells : (l : Leader) (i : ℕ) (n : Count) → i < 11 → tells (record { stand = l.stand; counts = set l.counts i n; entries = l.entries; lowest = l.lowest; proof = l.proof }) ≡ tells l
 unfolding tells
-gained_tells l i b t h =
+gained_tells l i n h =
     let ne : 11 ≢ i = omega arith in
-    ap (λ (c : Count). tells_by c l.entries l.lowest) (get_or-set_other l.counts i 11 (counted (count_at l i) b t) no_count ne)
-
-pub gained_proves : (l : Leader) (i b t : ℕ) → proves (gained l i b t) ≡ proves l
-unfolding proves
-gained_proves l i b t = refl
-
-pub standing_tells : (l : Leader) (w : Stand) → tells (standing l w) ≡ tells l
-unfolding tells
-standing_tells l w = refl
-
-pub standing_proves : (l : Leader) (w : Stand) → proves (standing l w) ≡ proves l
-unfolding proves
-standing_proves l w = refl
+    ap (λ (c : Count). tells_by c l.entries l.lowest) (get_or-set_other l.counts i 11 n no_count ne)
 
 -- Whether a board's entry passes, where it told one.
 abbrev each : (Entry → Bool) → ℕ → List Entry → ℕ → Bool
@@ -89,7 +78,7 @@ lowest_some e low z =
     (λ u. (or_parts (eqb low.earlier 0) (ltb e.earlier low.earlier) (sym (ap (λ t. t && (eqb low.earlier 0 || ltb e.earlier low.earlier)) (not_from_false (nothing e) z)) ∙ u)).0)
 
 -- What every leader keeps of lasts, with one last more.
-pub told_tells : (l : Leader) (b t : ℕ) (e : Entry) (p : Count) → length l.counts ≡ 12 → length l.entries ≡ 8 → Tellable l b e p → tells (told l b t e p) ≡ true
+told_tells : (l : Leader) (b t : ℕ) (e : Entry) (p : Count) → length l.counts ≡ 12 → length l.entries ≡ 8 → Tellable l b e p → tells (told l b t e p) ≡ true
 unfolding tells
 told_tells l b t e p twelve eight h =
     let s = tellers l in
@@ -106,13 +95,23 @@ told_tells l b t e p twelve eight h =
     (λ z. (λ i. alike (nothing (cond-false (undercuts e low) e low (and_left (not (nothing e)) _ (not_from_true (nothing e) z)) i)) (none_more s b es e there h.new z i)) ∙ rest.1)
     (λ z. λ i. alike (lowest_some e low z i) (some_more s b es e h.seated there z i))
     (cases_Bool (nothing e)) in
-    ap (λ (c : Count). tells_by c (set es b e) low2) (get_or-set_same l.counts 11 (counted (count_at l 11) b t) no_count (omega (arith, twelve))) ∙ and_from _ _ one (and_from _ _ two three)
+    ap (λ (c : Count). tells_by c (set es b e) low2) (get_or-set_same l.counts 11 (counted (count_at l Slot.Last) b t) no_count (omega (arith, twelve))) ∙ and_from _ _ one (and_from _ _ two three)
 
 both_shown : (u : Bool) (e low : Entry) (p q : Count) → alike (nothing e) (eqb p.set.bits 0) ≡ true → alike (nothing low) (eqb q.set.bits 0) ≡ true
     → alike (nothing (cond u e low)) (eqb (cond u p q).set.bits 0) ≡ true
 both_shown true e low p q x y = x
 both_shown false e low p q x y = y
 
-pub told_proves : (l : Leader) (b t : ℕ) (e : Entry) (p : Count) → Tellable l b e p → proves (told l b t e p) ≡ true
+told_proves : (l : Leader) (b t : ℕ) (e : Entry) (p : Count) → Tellable l b e p → proves (told l b t e p) ≡ true
 unfolding proves
 told_proves l b t e p h = both_shown (undercuts e l.lowest) e l.lowest p l.proof h.shown h.proved_so
+
+-- The same by other names of the place, the count, the entries and whether the entry undercuts the lowest.
+pub told_keeps : (l : Leader) (b t : ℕ) (e : Entry) (p : Count) (i : ℕ) (n : Count) (es : List Entry) (u : Bool) → i ≡ 11 → n ≡ counted (count_at l Slot.Last) b t → es ≡ set l.entries b e → u ≡ undercuts e l.lowest
+    → length l.counts ≡ 12 → length l.entries ≡ 8 → Tellable l b e p
+    → let r : Leader = record { stand = l.stand; counts = set l.counts i n; entries = es; lowest = cond u e l.lowest; proof = cond u p l.proof } in
+    (tells r ≡ true) × (proves r ≡ true)
+told_keeps l b t e p i n es u ei en ee eu twelve eight h =
+    let is : _ ≡ told l b t e p =
+    λ j. record { stand = l.stand; counts = set l.counts (ei j) (en j); entries = ee j; lowest = cond (eu j) e l.lowest; proof = cond (eu j) p l.proof } in
+    (ap tells is ∙ told_tells l b t e p twelve eight h, ap proves is ∙ told_proves l b t e p h)

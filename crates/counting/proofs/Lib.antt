@@ -1,4 +1,4 @@
 -- The laws of counts.
--- Leaders: what every leader keeps. Fills: when a count is full.
+-- Leaders: what every leader keeps. Tallies: what is counted, and its certificate.
 pub mod Leaders
-pub mod Fills
+pub mod Tallies

@@ -1,15 +1,18 @@
 -- What a row does that counts a lone message: the next state, and what goes out; nothing is signed.
 -- The whole of each kind is `heard` of crate row.
-use Rattle.std.specs.Prelude.{◌≡◌, ℕ, ◌+◌, ◌<◌, Bool, true, false, List, [], length, None, ◌==◌}
+use Rattle.std.specs.Prelude.{◌≡◌, ℕ, ◌+◌, ◌<◌, ◌≤◌, Bool, true, false, List, [], length, None, ◌==◌}
 use Rattle.wire.specs.declared.message.Entry.{Entry}
 use Rattle.row.specs.declared.state.Count.{Count}
 use Rattle.row.specs.declared.state.Leader.{Leader}
+use Rattle.row.specs.declared.state.Slot.{Slot}
 use Rattle.row.specs.Rows.{alike, allowed, nothing, tellers, tells, proves}
 use Rattle.boards.specs.Boards.{member}
 use Rattle.views.specs.Shares.{share, quorum}
 use Rattle.wire.specs.Acts.{signers, tag_of}
 use Rattle.row.specs.declared.state.Stand.TheVariants.{Acks, Readies, Lasts, Done}
-use Rattle.row.specs.States.{many}
+use Rattle.row.specs.declared.state.Stand.{Stand}
+use Rattle.row.specs.States.{count_at, count_tags, group, latest, many}
+use Rattle.counting.specs.declared.counts.Tally.{Tally}
 use Rattle.schemes.specs.declared.Scheme.{Ghosts}
 use Rattle.checks.specs.Checks.{genuine}
 use Rattle.wire.specs.Messages.{Msg}
@@ -17,7 +20,7 @@ use Rattle.wire.specs.Format.{Formed}
 use Rattle.row.specs.declared.state.State.{State}
 use Rattle.row.specs.declared.state.Sent.{Sent}
 use Rattle.row.specs.Refusals.{hear_refusal}
-use Rattle.row.specs.Effects.{Effect, Outcome, gained, filled, suggests, proposes, changes, queries, told, called_for, suggests_last}
+use Rattle.row.specs.Effects.{Effect, Outcome, gained, filled, told, called_for, suggests_last}
 use Rattle.row.specs.Calls.{Posted, sent}
 
 -- What goes out of an effect that signs nothing.
@@ -30,21 +33,57 @@ Went (Effect.sends to m) out a out2 = Posted to m out a out2
 abbrev pub Counted : Outcome → List ℕ → Sent → State → List ℕ → Type 0
 Counted o out a st2 out2 = (st2 ≡ o.0) × Went o.1 out a out2
 
--- What a notify, an ack, a ready and a deputy do, by the number of their tag.
-abbrev pub at_notify : State → ℕ → ℕ → ℕ → Outcome
-at_notify s c b n = let l = gained s.leader c b n in filled s l c (share (many s) + 1) (Acks c) (suggests s l c)
+-- Where a lone message is counted.
+abbrev pub slot_of : Tally → Slot
+slot_of (Tally.Notify c) = Slot.Notify c
+slot_of (Tally.Ack k c) = Slot.Ack
+slot_of (Tally.Ready k c) = Slot.Ready
+slot_of (Tally.Deputy k) = Slot.Deputy
 
-abbrev pub at_ack : State → ℕ → ℕ → ℕ → ℕ → Outcome
-at_ack s k c b n = let l = gained s.leader 8 b n in filled s l 8 (quorum (many s)) (Readies c) (proposes s l k c)
+-- How many of n members make a certificate: f + 1 notifies or deputy messages, a quorum of acks or readies.
+abbrev pub least : Tally → ℕ → ℕ
+least (Tally.Notify c) n = share n + 1
+least (Tally.Ack k c) n = quorum n
+least (Tally.Ready k c) n = quorum n
+least (Tally.Deputy k) n = share n + 1
 
-abbrev pub at_ready : State → ℕ → ℕ → ℕ → ℕ → Outcome
-at_ready s k c b n = let l = gained s.leader 9 b n in filled s l 9 (quorum (many s)) Done (changes s l k c)
+-- Where the leader stands then.
+abbrev pub stand_of : Tally → Stand
+stand_of (Tally.Notify c) = Acks c
+stand_of (Tally.Ack k c) = Readies c
+stand_of (Tally.Ready k c) = Done
+stand_of (Tally.Deputy k) = Lasts
 
-abbrev pub at_deputy : State → ℕ → ℕ → ℕ → Outcome
-at_deputy s k b n = let l = gained s.leader 10 b n in filled s l 10 (share (many s) + 1) Lasts (queries s l k)
+-- To whom the certificate goes: a change to all eight boards, any other to the members.
+abbrev pub audience : Tally → ℕ → ℕ
+audience (Tally.Notify c) v = v
+audience (Tally.Ack k c) v = v
+audience (Tally.Ready k c) v = 255
+audience (Tally.Deputy k) v = v
 
+-- The certificate of a full count in a view.
+abbrev pub certificate : Tally → ℕ → Count → Msg
+certificate (Tally.Notify c) v n = Msg.suggest v c n.set.bits (count_tags n)
+certificate (Tally.Ack k c) v n = Msg.proposal v k c n.set.bits (count_tags n)
+certificate (Tally.Ready k c) v n = Msg.change v k c n.set.bits (count_tags n)
+certificate (Tally.Deputy k) v n = Msg.query v k n.set.bits (count_tags n)
+
+-- What a lone message does that is counted, by the number of its tag.
+abbrev pub at : State → Tally → ℕ → ℕ → Outcome
+at s t b n =
+    let l = gained s.leader (slot_of t) b n in
+    filled s l (slot_of t) (least t (many s)) (stand_of t) (Effect.sends (audience t (group s)) (certificate t (latest s) (count_at l (slot_of t))))
+
+-- Its rank is 1 to 8, and its change a board.
+abbrev pub InRange : Tally → Type 0
+InRange (Tally.Notify c) = c < 8
+InRange (Tally.Ack k c) = (1 ≤ k) × (k ≤ 8) × (c < 8)
+InRange (Tally.Ready k c) = (1 ≤ k) × (k ≤ 8) × (c < 8)
+InRange (Tally.Deputy k) = (1 ≤ k) × (k ≤ 8)
+
+-- What a last does that is counted.
 abbrev pub at_last : State → ℕ → ℕ → ℕ → Entry → Count → Outcome
-at_last s k b n e p = let l = told s.leader b n e p in filled s l 11 (quorum (many s)) (Acks (called_for s l.lowest)) (suggests_last s l k)
+at_last s k b n e p = let l = told s.leader b n e p in filled s l Slot.Last (quorum (many s)) (Acks (called_for s l.lowest)) (suggests_last s l k)
 
 -- A board that was not counted tells an entry that the format allows, with a proof exactly if it has an earlier rank.
 pub record Tellable (l : Leader) (b : ℕ) (e : Entry) (p : Count) : Type 0 where

@@ -1,201 +1,135 @@
 // The kinds that a row counts as manager or deputy; a full count goes out as a certificate.
 // Rules: docs/RULES.md, "Changing the group". What each does: `heard` in the specs of crate row, Effects.antt.
-ghost use Rattle.std.specs.Prelude.{◌≡◌, ◌+◌, ◌<◌, ◌≤◌, true, length};
-ghost use Rattle.views.specs.Shares.{share, quorum};
-ghost use Rattle.wire.specs.Messages.{Msg, meaning};
+ghost use Rattle.std.specs.Prelude.{◌≡◌, ◌<◌, ◌≤◌, length};
+ghost use Rattle.boards.specs.Boards.{size};
+ghost use Rattle.wire.specs.Messages.{meaning};
 ghost use Rattle.wire.specs.Acts.{tag_number};
-ghost use Rattle.row.specs.Rows.{tells, proves};
-ghost use Rattle.row.specs.States.{group, many, count_tags};
-ghost use Rattle.row.specs.Effects.{Effect, filled};
-ghost use Rattle.row.specs.Calls.{Posted, sent};
-ghost use Rattle.sending.proofs.Certificates.{Certified};
-ghost use Rattle.counting.specs.Counts.{Counted, SpeaksIt, own_tag, at_notify, at_ack, at_ready, at_deputy};
+ghost use Rattle.counting.specs.Counts.{Counted, InRange, SpeaksIt, at, certificate, audience, least, own_tag, slot_of, stand_of};
 
-use crate::leader::{count_at, fill, gained};
+use crate::leader::gained;
 use boards::Set;
 use row::row::Row;
-use row::state::{Count, Leader, Sent, Stand};
+use row::state::{Count, Leader, Sent, Slot, Stand};
 use sending::post;
 use signed::tag;
+use views::view::View;
 use wire::message::{Message, Tags};
 
-// Nothing is sent.
-fn silent() -> Sent
-    ensures { result ≡ sent 0 0 }
-{
-    Sent {
-        to: Set::EMPTY,
-        length: 0,
+// A lone message that is counted, but for its speaker and tag.
+#[derive(Clone, Copy)]
+pub(crate) enum Tally {
+    Notify { change: u8 },
+    Ack { rank: u8, change: u8 },
+    Ready { rank: u8, change: u8 },
+    Deputy { rank: u8 },
+}
+
+impl Tally {
+    // Where it is counted.
+    fn slot(self) -> Slot
+        ensures { result ≡ slot_of self }
+    {
+        match self {
+            Tally::Notify { change } => Slot::Notify(change),
+            Tally::Ack { .. } => Slot::Ack,
+            Tally::Ready { .. } => Slot::Ready,
+            Tally::Deputy { .. } => Slot::Deputy,
+        }
+    }
+
+    // How many make a certificate: f + 1 notifies or deputy messages, a quorum of acks or readies.
+    fn least(self, view: &View) -> u8
+        ensures { result ≡ least self (size view.now.set.bits) }
+    {
+        match self {
+            Tally::Notify { .. } | Tally::Deputy { .. } => view.one_correct(),
+            Tally::Ack { .. } | Tally::Ready { .. } => view.quorum(),
+        }
+    }
+
+    // Where the leader stands then.
+    fn stand(self) -> Stand
+        ensures { result ≡ stand_of self }
+    {
+        match self {
+            Tally::Notify { change } => Stand::Acks { change },
+            Tally::Ack { change, .. } => Stand::Readies { change },
+            Tally::Ready { .. } => Stand::Done,
+            Tally::Deputy { .. } => Stand::Lasts,
+        }
+    }
+
+    // To whom the certificate goes: a change to all eight boards, any other to the members.
+    fn to(self, view: &View) -> Set
+        ensures { result.bits ≡ audience self view.now.set.bits }
+    {
+        match self {
+            Tally::Ready { .. } => Set::ALL,
+            _ => view.set(),
+        }
+    }
+
+    // The certificate of a full count in a view.
+    fn certificate(self, view: u8, count: &Count) -> Message<'_>
+        ensures { meaning result ≡ certificate self view count.now }
+    {
+        let set = count.set;
+        let tags = Tags::Stored(&count.tags);
+        match self {
+            Tally::Notify { change } => Message::Suggest {
+                view,
+                change,
+                set,
+                tags,
+            },
+            Tally::Ack { rank, change } => Message::Proposal {
+                view,
+                rank,
+                change,
+                set,
+                tags,
+            },
+            Tally::Ready { rank, change } => Message::Change {
+                view,
+                rank,
+                change,
+                set,
+                tags,
+            },
+            Tally::Deputy { rank } => Message::Query {
+                view,
+                rank,
+                set,
+                tags,
+            },
+        }
     }
 }
 
-// Writes a message that is formed and has room.
-fn send(m: &Message<'_>, to: Set, out: &mut [u8]) -> Sent
-    requires { Certified (meaning m.now) × (128 ≤ length out.old) }
-    ensures { Posted to.bits (meaning m.now) out.old result out.new }
+// Counts a lone message; once its count is full the leader stands elsewhere, and the certificate goes out.
+fn count(row: &mut Row, tally: Tally, speaker: u8, number: u64, out: &mut [u8]) -> Sent
+    requires range { InRange tally }
+    requires speaker { speaker < 8 }
+    requires room { 128 ≤ length out.old }
+    ensures { Counted (at row.old.state tally speaker number) out.old result row.new.state out.new }
 {
-    match post(m, to, out) {
-        Some(sent) => sent,
-        None => unreachable(),
-    }
-}
-
-// Once the count at a place is full the leader stands so, and the certificate goes out.
-fn certify(
-    row: &mut Row,
-    leader: Leader,
-    place: u8,
-    least: u8,
-    stand: Stand,
-    m: &Message<'_>,
-    to: Set,
-    out: &mut [u8],
-) -> Sent
-    requires { (place < 12) × (tells leader ≡ true) × (proves leader ≡ true) × Certified (meaning m.now) × (128 ≤ length out.old) }
-    ensures { Counted (filled row.old.state leader place least stand (Effect.sends to.bits (meaning m.now))) out.old result row.new.state out.new }
-{
-    if fill(row, leader, place, least, stand) {
-        send(m, to, out)
+    let view = row.view();
+    let leader = gained(&row.state.leader, tally.slot(), speaker, number);
+    let full = leader.at(tally.slot());
+    if full.set.len() == tally.least(&view) {
+        let m = tally.certificate(row.latest(), &full);
+        row.state.leader = Leader {
+            stand: tally.stand(),
+            ..leader
+        };
+        post(&m, tally.to(&view), out).unwrap()
     } else {
-        silent()
+        row.state.leader = leader;
+        Sent {
+            to: Set::EMPTY,
+            length: 0,
+        }
     }
-}
-
-// The four certificates of a count.
-fn suggest<'a>(view: u8, change: u8, count: &'a Count) -> Message<'a>
-    ensures { meaning result ≡ Msg.suggest view change count.now.set.bits (count_tags count.now) }
-{
-    Message::Suggest {
-        view,
-        change,
-        set: count.set,
-        tags: Tags::Stored(&count.tags),
-    }
-}
-
-fn proposal<'a>(view: u8, rank: u8, change: u8, count: &'a Count) -> Message<'a>
-    ensures { meaning result ≡ Msg.proposal view rank change count.now.set.bits (count_tags count.now) }
-{
-    Message::Proposal {
-        view,
-        rank,
-        change,
-        set: count.set,
-        tags: Tags::Stored(&count.tags),
-    }
-}
-
-fn changed<'a>(view: u8, rank: u8, change: u8, count: &'a Count) -> Message<'a>
-    ensures { meaning result ≡ Msg.change view rank change count.now.set.bits (count_tags count.now) }
-{
-    Message::Change {
-        view,
-        rank,
-        change,
-        set: count.set,
-        tags: Tags::Stored(&count.tags),
-    }
-}
-
-fn query<'a>(view: u8, rank: u8, count: &'a Count) -> Message<'a>
-    ensures { meaning result ≡ Msg.query view rank count.now.set.bits (count_tags count.now) }
-{
-    Message::Query {
-        view,
-        rank,
-        set: count.set,
-        tags: Tags::Stored(&count.tags),
-    }
-}
-
-// More boards than may be faulty, just: f + 1.
-fn one_correct(row: &Row) -> u8
-    ensures { result ≡ share (many row.now.state) + 1 }
-{
-    row.view().shares().f + 1
-}
-
-// A quorum.
-fn enough(row: &Row) -> u8
-    ensures { result ≡ quorum (many row.now.state) }
-{
-    row.view().shares().q
-}
-
-// The members of the latest view.
-fn all(row: &Row) -> Set
-    ensures { result.bits ≡ group row.now.state }
-{
-    row.view().set()
-}
-
-// A notify: the (f + 1)th for a change makes a suggest.
-fn notify(row: &mut Row, change: u8, speaker: u8, number: u64, out: &mut [u8]) -> Sent
-    requires { (change < 8) × (speaker < 8) × (128 ≤ length out.old) }
-    ensures { Counted (at_notify row.old.state change speaker number) out.old result row.new.state out.new }
-{
-    let leader = gained(&row.state.leader, change, speaker, number);
-    let count = count_at(&leader, change);
-    let least = one_correct(row);
-    let to = all(row);
-    let m = suggest(row.latest(), change, &count);
-    certify(
-        row,
-        leader,
-        change,
-        least,
-        Stand::Acks { change },
-        &m,
-        to,
-        out,
-    )
-}
-
-// An ack: the Qth makes a proposal.
-fn ack(row: &mut Row, rank: u8, change: u8, speaker: u8, number: u64, out: &mut [u8]) -> Sent
-    requires { (1 ≤ rank) × (rank ≤ 8) × (change < 8) × (speaker < 8) × (128 ≤ length out.old) }
-    ensures { Counted (at_ack row.old.state rank change speaker number) out.old result row.new.state out.new }
-{
-    let leader = gained(&row.state.leader, 8, speaker, number);
-    let count = count_at(&leader, 8);
-    let least = enough(row);
-    let to = all(row);
-    let m = proposal(row.latest(), rank, change, &count);
-    certify(
-        row,
-        leader,
-        8,
-        least,
-        Stand::Readies { change },
-        &m,
-        to,
-        out,
-    )
-}
-
-// A ready: the Qth makes a change, to all eight boards.
-fn ready(row: &mut Row, rank: u8, change: u8, speaker: u8, number: u64, out: &mut [u8]) -> Sent
-    requires { (1 ≤ rank) × (rank ≤ 8) × (change < 8) × (speaker < 8) × (128 ≤ length out.old) }
-    ensures { Counted (at_ready row.old.state rank change speaker number) out.old result row.new.state out.new }
-{
-    let leader = gained(&row.state.leader, 9, speaker, number);
-    let count = count_at(&leader, 9);
-    let least = enough(row);
-    let m = changed(row.latest(), rank, change, &count);
-    certify(row, leader, 9, least, Stand::Done, &m, Set::ALL, out)
-}
-
-// A deputy message: the (f + 1)th makes a query.
-fn deputy(row: &mut Row, rank: u8, speaker: u8, number: u64, out: &mut [u8]) -> Sent
-    requires { (1 ≤ rank) × (rank ≤ 8) × (speaker < 8) × (128 ≤ length out.old) }
-    ensures { Counted (at_deputy row.old.state rank speaker number) out.old result row.new.state out.new }
-{
-    let leader = gained(&row.state.leader, 10, speaker, number);
-    let count = count_at(&leader, 10);
-    let least = one_correct(row);
-    let to = all(row);
-    let m = query(row.latest(), rank, &count);
-    certify(row, leader, 10, least, Stand::Lasts, &m, to, out)
 }
 
 // The tag of a message's speaker.
@@ -203,8 +137,5 @@ fn own_tag(m: &Message<'_>, speaker: u8) -> u64
     requires { SpeaksIt (meaning m.now) speaker }
     ensures { result ≡ tag_number (own_tag (meaning m.now)) }
 {
-    match tag(m, speaker) {
-        Some(number) => number,
-        None => unreachable(),
-    }
+    tag(m, speaker).unwrap()
 }

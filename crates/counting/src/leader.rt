@@ -1,19 +1,17 @@
-// What a counted message leaves of the leader, and where the leader stands once a count is full.
+// What a counted message leaves of the leader.
 // Words of the contracts: specs of crate row, Effects.antt.
-ghost use Rattle.std.specs.Prelude.{◌≡◌, ◌<◌, true, length, if◌then◌else◌, ◌==◌, slice_set};
-ghost use Rattle.boards.specs.Boards.{size};
+ghost use Rattle.std.specs.Prelude.{◌≡◌, ◌<◌, true, length, slice_set};
 ghost use Rattle.row.specs.Rows.{tells, proves};
-ghost use Rattle.row.specs.States.{counted, count_at, with_leader};
-ghost use Rattle.row.specs.Effects.{gained, told, undercuts, standing, set_at};
+ghost use Rattle.row.specs.States.{counted, place_of};
+ghost use Rattle.row.specs.Effects.{gained, told, undercuts};
 ghost use Rattle.counting.specs.Counts.{Tellable};
 
-use row::row::Row;
-use row::state::{Count, Leader, Stand};
-use seats::{insert, set_of};
+use row::state::{Count, Leader, Slot};
+use seats::insert;
 use wire::message::Entry;
 
 // The count with one board more, and its tag.
-pub(crate) fn counted(count: &Count, board: u8, tag: u64) -> Count
+fn counted(count: &Count, board: u8, tag: u64) -> Count
     requires { board < 8 }
     ensures { result ≡ counted count.now board tag }
 {
@@ -25,37 +23,16 @@ pub(crate) fn counted(count: &Count, board: u8, tag: u64) -> Count
     }
 }
 
-// What is counted at a place of the table.
-pub(crate) fn count_at(leader: &Leader, place: u8) -> Count
-    requires { place < 12 }
-    ensures is { result ≡ count_at leader.now place }
-    ensures byte { result.set.bits < 256 }
-    ensures table { length leader.now.counts ≡ 12 }
-{
-    let count = leader.counts[place as usize];
-    let tags = count.tags;
-    Count {
-        set: set_of(count.set.bits),
-        tags,
-    }
-}
-
-// The leader with one message more at a place of the table before that of the lasts.
-pub(crate) fn gained(leader: &Leader, place: u8, board: u8, tag: u64) -> Leader
-    requires { (place < 11) × (board < 8) }
-    ensures is { result ≡ gained leader.now place board tag }
+// The leader with one message more in a slot before that of the lasts.
+pub(crate) fn gained(leader: &Leader, slot: Slot, board: u8, tag: u64) -> Leader
+    requires { (place_of slot < 11) × (board < 8) }
+    ensures is { result ≡ gained leader.now slot board tag }
     ensures tells { tells result ≡ tells leader.now }
     ensures proves { proves result ≡ proves leader.now }
 {
     let mut counts = leader.counts;
-    counts[place as usize] = counted(&count_at(leader, place), board, tag);
-    Leader {
-        stand: leader.stand,
-        counts,
-        entries: leader.entries,
-        lowest: leader.lowest,
-        proof: leader.proof,
-    }
+    counts[slot.place() as usize] = counted(&leader.at(slot), board, tag);
+    Leader { counts, ..*leader }
 }
 
 // Whether an entry has a lower earlier rank than any before it.
@@ -63,19 +40,6 @@ fn undercuts(entry: Entry, low: Entry) -> bool
     ensures { result ≡ undercuts entry low }
 {
     entry.earlier != 0 && (low.earlier == 0 || entry.earlier < low.earlier)
-}
-
-// The first entry or the second, and the first count or the second.
-fn either_entry(first: bool, a: Entry, b: Entry) -> Entry
-    ensures { result ≡ (if first then a else b) }
-{
-    if first { a } else { b }
-}
-
-fn either_count(first: bool, a: Count, b: Count) -> Count
-    ensures { result ≡ (if first then a else b) }
-{
-    if first { a } else { b }
 }
 
 // The entries with that of one board more.
@@ -97,46 +61,15 @@ pub(crate) fn told(leader: &Leader, board: u8, tag: u64, entry: Entry, proof: Co
     ensures proves { proves result ≡ true }
 {
     let mut counts = leader.counts;
-    counts[11] = counted(&count_at(leader, 11), board, tag);
-    let entries = with_entry(&leader.entries, board, entry);
-    let lower = undercuts(entry, leader.lowest);
-    let lowest = either_entry(lower, entry, leader.lowest);
-    let shown = either_count(lower, proof, leader.proof);
-    Leader {
-        stand: leader.stand,
+    counts[Slot::Last.place() as usize] = counted(&leader.at(Slot::Last), board, tag);
+    let mut next = Leader {
         counts,
-        entries,
-        lowest,
-        proof: shown,
+        entries: with_entry(&leader.entries, board, entry),
+        ..*leader
+    };
+    if undercuts(entry, leader.lowest) {
+        next.lowest = entry;
+        next.proof = proof;
     }
-}
-
-// The leader that stands elsewhere.
-fn standing(leader: &Leader, stand: Stand) -> Leader
-    ensures is { result ≡ standing leader.now stand }
-    ensures tells { tells result ≡ tells leader.now }
-    ensures proves { proves result ≡ proves leader.now }
-{
-    Leader {
-        stand,
-        counts: leader.counts,
-        entries: leader.entries,
-        lowest: leader.lowest,
-        proof: leader.proof,
-    }
-}
-
-// Whether the count at a place has so many boards; the leader then stands so.
-pub(crate) fn fill(row: &mut Row, leader: Leader, place: u8, least: u8, stand: Stand) -> bool
-    requires { (place < 12) × ((tells leader ≡ true) × (proves leader ≡ true)) }
-    ensures full { result ≡ (size (set_at leader place) == least) }
-    ensures state { row.new.state ≡ (if result then with_leader row.old.state (standing leader stand) else with_leader row.old.state leader) }
-{
-    if count_at(&leader, place).set.len() == least {
-        row.state.leader = standing(&leader, stand);
-        true
-    } else {
-        row.state.leader = leader;
-        false
-    }
+    next
 }

@@ -1,12 +1,11 @@
-// The entries that boards told in a message, each tried alone, and SPLIT.
-// Rules: docs/RULES.md, "Changing the group"; trials: specs/Trials.antt.
+// The entries that boards told in a message, each tested alone, and SPLIT.
+// Rules: docs/RULES.md, "Changing the group"; what some board told: specs/Told.antt.
 ghost use Rattle.std.specs.Prelude.{◌≡◌};
 ghost use Rattle.wire.specs.Messages.{meaning};
 ghost use Rattle.words.specs.Said.{said};
 ghost use Rattle.row.specs.Refusals.{misplaced, differs, split};
-ghost use Rattle.members.specs.Trials.{fails, entry_of, fails_at, some_fails};
+ghost use Rattle.members.specs.Told.{entry_of, entry_by, some_told};
 
-use crate::trial::Trial;
 use signed::{lowest_entry, statement};
 use wire::message::{Entry, Message};
 use words::statement::Statement;
@@ -25,16 +24,6 @@ fn differs(low: Entry, entry: Entry) -> bool
     low.earlier != 0 && entry.earlier == low.earlier && entry.change != low.change
 }
 
-// Whether an entry fails a trial.
-fn fails(trial: Trial, entry: Entry) -> bool
-    ensures { result ≡ fails trial entry }
-{
-    match trial {
-        Trial::Placed { rank, most } => misplaced(rank, most, entry),
-        Trial::Agrees { low } => differs(low, entry),
-    }
-}
-
 // The entry that a statement tells, which only a last does.
 fn entry_of(statement: Statement<'_>) -> Entry
     ensures { result ≡ entry_of (said statement.entry) }
@@ -48,39 +37,30 @@ fn entry_of(statement: Statement<'_>) -> Entry
     }
 }
 
-// Whether this board signed an entry that fails.
-fn fails_at(trial: Trial, m: &Message<'_>, board: u8) -> bool
-    ensures { result ≡ fails_at trial (meaning m.now) board }
+// The entry that a board signed, if it signed.
+fn entry_by(m: &Message<'_>, board: u8) -> Option<Entry>
+    ensures { result ≡ entry_by (meaning m.now) board }
 {
-    match statement(m, board) {
-        Some(s) => fails(trial, entry_of(s)),
-        None => false,
-    }
+    statement(m, board).map(entry_of)
 }
 
-// Whether some board did.
-pub(crate) fn some_fails(trial: Trial, m: &Message<'_>) -> bool
-    ensures { result ≡ some_fails trial (meaning m.now) }
+// Whether some board told an entry whose earlier rank is misplaced.
+pub(crate) fn some_misplaced(m: &Message<'_>, rank: u8, n: u8) -> bool
+    ensures { result ≡ some_told (misplaced rank n) (meaning m.now) }
 {
-    for board in 0..8 {
-        if fails_at(trial, m, board) {
-            return true;
-        }
-    }
-    false
+    (0..8).any(|board| entry_by(m, board).is_some_and(|entry| misplaced(rank, n, entry)))
+}
+
+// Whether some board told an entry that differs from the lowest.
+fn some_differs(m: &Message<'_>, low: Entry) -> bool
+    ensures { result ≡ some_told (differs low) (meaning m.now) }
+{
+    (0..8).any(|board| entry_by(m, board).is_some_and(|entry| differs(low, entry)))
 }
 
 // SPLIT: in a suggest-last the lowest earlier rank stands with two changes.
 pub fn split(m: &Message<'_>) -> bool
     ensures { result ≡ split (meaning m.now) }
 {
-    match *m {
-        Message::SuggestLast { .. } => some_fails(
-            Trial::Agrees {
-                low: lowest_entry(m),
-            },
-            m,
-        ),
-        _ => false,
-    }
+    matches!(m, Message::SuggestLast { .. }) && some_differs(m, lowest_entry(m))
 }

@@ -4,11 +4,11 @@ ghost use Rattle.std.specs.Prelude.{◌≡◌};
 ghost use Rattle.wire.specs.Messages.{meaning};
 ghost use Rattle.row.specs.Refusals.{stranger, barred};
 
-use crate::entries::{misplaced, some_fails};
+use crate::entries::{misplaced, some_misplaced};
 use crate::ranks::{empties, inside, strays};
-use crate::trial::Trial;
 use row::row::Row;
 use signed::signers;
+use views::history::LAST;
 use wire::message::Message;
 
 // MEMBER: the row's board (but in a change), a speaker, a set, a proof's set or the rank is not in the view;
@@ -18,9 +18,8 @@ pub fn stranger(row: &Row, m: &Message<'_>) -> bool
 {
     let view = row.view();
     let n = view.len();
-    let outside = !inside(row);
     let strange = strays(signers(m), &view);
-    let beyond = outside || strange;
+    let beyond = !inside(row) || strange;
     match *m {
         Message::Notify { .. } | Message::Suggest { .. } => beyond,
         Message::Ack { rank, .. } | Message::Proposal { rank, .. } | Message::Ready { rank, .. } =>
@@ -34,8 +33,7 @@ pub fn stranger(row: &Row, m: &Message<'_>) -> bool
             ..
         } => { beyond || strays(proof, &view) || n <= rank || misplaced(rank, n, entry) }
         Message::SuggestLast { rank, proof, .. } => {
-            let placed = Trial::Placed { rank, most: n };
-            beyond || strays(proof, &view) || n <= rank || some_fails(placed, m)
+            beyond || strays(proof, &view) || n <= rank || some_misplaced(m, rank, n)
         }
         _ => false,
     }
@@ -45,12 +43,11 @@ pub fn stranger(row: &Row, m: &Message<'_>) -> bool
 pub fn barred(row: &Row, m: &Message<'_>) -> bool
     ensures { result ≡ barred row.now.state (meaning m.now) }
 {
-    let last = row.latest() >= 64;
+    let last = row.latest() >= LAST;
     match *m {
-        Message::Notify { change, .. } | Message::Suggest { change, .. } => {
-            last || empties(row, change)
-        }
-        Message::Ack { change, .. }
+        Message::Notify { change, .. }
+        | Message::Suggest { change, .. }
+        | Message::Ack { change, .. }
         | Message::Proposal { change, .. }
         | Message::Ready { change, .. }
         | Message::Change { change, .. } => last || empties(row, change),

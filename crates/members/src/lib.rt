@@ -6,4 +6,3 @@ pub mod entries;
 pub mod group;
 pub mod ranks;
 pub mod sizes;
-mod trial;

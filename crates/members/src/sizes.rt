@@ -1,9 +1,7 @@
 // SIZE: how many boards a set has that gathers tags.
 // Rules: docs/RULES.md, "Changing the group".
-ghost use Rattle.std.specs.Prelude.{◌≡◌, ◌+◌};
+ghost use Rattle.std.specs.Prelude.{◌≡◌};
 ghost use Rattle.wire.specs.Messages.{meaning};
-ghost use Rattle.views.specs.Shares.{share};
-ghost use Rattle.row.specs.States.{many};
 ghost use Rattle.row.specs.Refusals.{misfit, odd_proof};
 
 use boards::Set;
@@ -14,23 +12,17 @@ use wire::message::Message;
 fn odd_proof(row: &Row, proof: Set) -> bool
     ensures { result ≡ odd_proof row.now.state proof.bits }
 {
-    !proof.is_empty() && proof.len() != row.view().shares().q
-}
-
-// More boards than may be faulty, just: f + 1.
-fn one_correct(row: &Row) -> u8
-    ensures { result ≡ share (many row.now.state) + 1 }
-{
-    row.view().shares().f + 1
+    !proof.is_empty() && proof.len() != row.view().quorum()
 }
 
 // SIZE: exactly f + 1 boards in a suggest and a query, exactly a quorum in a proposal, a change, a suggest-last and a proof.
 pub fn misfit(row: &Row, m: &Message<'_>) -> bool
     ensures { result ≡ misfit row.now.state (meaning m.now) }
 {
-    let quorum = row.view().shares().q;
+    let quorum = row.view().quorum();
     match *m {
-        Message::Suggest { set, .. } | Message::Query { set, .. } => set.len() != one_correct(row),
+        Message::Suggest { set, .. } | Message::Query { set, .. } => set.len()
+            != row.view().one_correct(),
         Message::Proposal { set, .. } | Message::Change { set, .. } => set.len() != quorum,
         Message::Last { proof, .. } => odd_proof(row, proof),
         Message::SuggestLast { set, proof, .. } => set.len() != quorum || odd_proof(row, proof),

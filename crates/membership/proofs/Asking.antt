@@ -1,20 +1,17 @@
 -- What an ask says that is not refused, and that a board always trusts some member: itself.
 -- From the order of the reasons.
-use Rattle.std.proofs.Common.{◌≡◌, ℕ, ◌+◌, ◌<◌, ◌≤◌, Bool, true, false, cond, not, ◌&&◌, ◌||◌, eqb, leb, Some, None, Option, sym, refl, ap, ◌∙◌, add-one, arith}
+use Rattle.std.proofs.Common.{◌≡◌, ℕ, ◌<◌, ◌≤◌, Bool, true, false, not, ◌&&◌, ◌||◌, eqb, leb, None, Option, sym, ap, ◌∙◌}
 use Rattle.std.proofs.lemmas.Bool.{and_from, and_parts, both_ways, eq-eqb, leb-false, ltb-false, ne_eqb, not-false, not_from_false, or_from, or_parts}
 use Rattle.boards.specs.Boards.{member}
-use Rattle.codes.specs.declared.Refusal.{Refusal}
 use Rattle.codes.specs.declared.Refusal.TheVariants.{Board, Out, Member, Change, Turn, Spent}
 use Rattle.row.specs.declared.state.State.{State}
-use Rattle.row.specs.States.{highest, insert, group, inside, latest, manager}
+use Rattle.row.specs.declared.row.Row.{Row}
+use Rattle.row.specs.States.{insert, group, inside, latest, manager}
 use Rattle.row.specs.Refusals.{short, out_refusal, in_refusal, delivers}
 use Rattle.row.specs.Effects.{trusted}
 use Rattle.row.proofs.Chosen.{highest_passes}
 use Rattle.row.proofs.Picked.{inserted}
-
-unheld : (b : Bool) (e : Refusal) (x : Option Refusal) → cond b (Some e) x ≡ None → (b ≡ false) × (x ≡ None)
-unheld true e x h = let z : ◌≡◌ {A = ℕ} 0 1 = cc in absurd (omega arith)
-unheld false e x h = (refl, h)
+use Rattle.admission.proofs.Early.{unheld}
 
 pub out_open : (s : State) (c room : ℕ) (spent : Bool) → out_refusal s c room spent ≡ None → (c < 8) × (inside s ≡ true) × (c ≡ s.board → ⊥) × (128 ≤ room) × (spent ≡ false)
 out_open s c room spent h =
@@ -36,19 +33,15 @@ in_open s c y room spent h =
     let p5 = unheld spent Spent _ p4.1 in
     (leb-false 8 c p0.0, ltb-false room 128 p1.0, p5.0)
 
--- A board that suspects another one does not suspect itself.
-pub still_trusts : (s c b : ℕ) → b < 8 → member s b ≡ false → (c ≡ b → ⊥) → member (insert s c) b ≡ false
-still_trusts s c b hb out ne = inserted s c b hb ∙ or_from (member s b) (eqb b c) out (ne_eqb b c (λ e. ne (sym e)))
+-- A row that suspects another board does not suspect its own.
+pub still_trusts : (w : Row) (c r : ℕ) → r ≡ insert w.state.voter.suspects.bits c → (c ≡ w.state.board → ⊥) → member r w.state.board ≡ false
+still_trusts w c r e ne =
+    let b = w.state.board in
+    let s = w.state.voter.suspects.bits in
+    ap (λ x. member x b) e ∙ inserted s c b w.seated ∙ or_from (member s b) (eqb b c) w.trusts (ne_eqb b c (λ z. ne (sym z)))
 
 -- So it trusts a member.
-pub trusted_member : (s : State) (suspects : ℕ) → s.board < 8 → inside s ≡ true → member suspects s.board ≡ false → member (group s) (trusted s suspects) ≡ true
-trusted_member s suspects hb inn out =
-    (and_parts _ _ (highest_passes (λ b. member (group s) b && not (member suspects b)) 8 s.board hb (and_from _ _ inn (not_from_false _ out))).1).0
-
-pub highest_next : (P : ℕ → Bool) (n : ℕ) → highest P (n + 1) ≡ cond (P n) n (highest P n)
-unfolding highest
-highest_next P n = ap (highest P) (add-one n)
-
-pub highest_first : (P : ℕ → Bool) → 8 ≡ highest P 0
-unfolding highest
-highest_first P = refl
+pub trusted_member : (w : Row) (suspects t : ℕ) → inside w.state ≡ true → member suspects w.state.board ≡ false → t ≡ trusted w.state suspects → member (group w.state) t ≡ true
+trusted_member w suspects t inn out e =
+    let passes : ℕ → Bool = λ b. member (group w.state) b && not (member suspects b) in
+    ap (member (group w.state)) e ∙ (and_parts _ _ (highest_passes passes 8 w.state.board w.seated (and_from _ _ inn (not_from_false _ out))).1).0

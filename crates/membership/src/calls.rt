@@ -4,7 +4,7 @@ ghost use Rattle.row.specs.Calls.{AsksOut, AsksIn};
 
 use crate::asks::{asked_out, notify};
 use codes::Refusal;
-use refusals::first::{in_refusal, out_refusal};
+use refusals::first::{may_ask_in, may_ask_out};
 use row::row::Row;
 use row::state::Sent;
 use schemes::Scheme;
@@ -18,10 +18,8 @@ pub fn ask_out<S: Scheme>(
 ) -> Result<Sent, Refusal>
     ensures { AsksOut S.Scheme row.old.state scheme.old c out.old result row.new.state scheme.new out.new }
 {
-    match out_refusal(row, c, out.len(), scheme.is_spent()) {
-        Some(e) => Err(e),
-        None => Ok(asked_out(row, scheme, c, out)),
-    }
+    may_ask_out(row, c, out.len(), scheme.is_spent())?;
+    Ok(asked_out(row, scheme, c, out))
 }
 
 // Asks for a board to join; `delivery` is the view in which reports are delivered.
@@ -34,8 +32,6 @@ pub fn ask_in<S: Scheme>(
 ) -> Result<Sent, Refusal>
     ensures { AsksIn S.Scheme row.old.state scheme.old c delivery out.old result row.new.state scheme.new out.new }
 {
-    match in_refusal(row, c, delivery, out.len(), scheme.is_spent()) {
-        Some(e) => Err(e),
-        None => Ok(notify(row, scheme, c, out)),
-    }
+    may_ask_in(row, c, delivery, out.len(), scheme.is_spent())?;
+    Ok(notify(row, scheme, c, out))
 }

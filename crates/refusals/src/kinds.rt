@@ -31,21 +31,21 @@ pub(crate) fn view_of(m: &Message<'_>) -> u8
 pub fn of_group(m: &Message<'_>) -> bool
     ensures { result ≡ of_group (meaning m.now) }
 {
-    match *m {
-        Message::Init { .. } | Message::Echo { .. } | Message::Commit { .. } => false,
-        _ => true,
-    }
+    !matches!(
+        m,
+        Message::Init { .. } | Message::Echo { .. } | Message::Commit { .. }
+    )
 }
 
 // Whether the row signs when it takes the message.
 pub fn answered(m: &Message<'_>) -> bool
     ensures { result ≡ answered (meaning m.now) }
 {
-    match *m {
+    matches!(
+        m,
         Message::Suggest { .. }
-        | Message::Proposal { .. }
-        | Message::Query { .. }
-        | Message::SuggestLast { .. } => true,
-        _ => false,
-    }
+            | Message::Proposal { .. }
+            | Message::Query { .. }
+            | Message::SuggestLast { .. }
+    )
 }

@@ -8,11 +8,12 @@ use Rattle.wire.specs.declared.message.Entry.{Entry}
 use Rattle.wire.specs.Messages.{Msg, stored_tags, stored_replies}
 use Rattle.wire.specs.Acts.{Act, lowest, tag_of, tag_at, tag_number}
 use Rattle.row.specs.declared.state.Count.{Count}
+use Rattle.row.specs.declared.state.Slot.{Slot}
 use Rattle.row.specs.declared.state.Stand.{Stand}
 use Rattle.row.specs.declared.state.Stand.TheVariants.{Acks, Readies, Lasts, Done}
 use Rattle.row.specs.declared.state.Leader.{Leader}
 use Rattle.row.specs.declared.state.State.{State}
-use Rattle.row.specs.States.{highest, set_of, insert, the_set, latest, group, many, manager, seat, inside, count_at, counted, count_tags, kept_entry, fresh, with_voter, with_leader, with_floor}
+use Rattle.row.specs.States.{highest, set_of, insert, the_set, latest, group, many, manager, seat, inside, place_of, count_at, counted, count_tags, kept_entry, fresh, with_voter, with_leader, with_floor}
 
 -- What is sent: nothing; the lone message of an act that the row signs, in a last with a proof; a message made of tags it has, or passed on.
 pub data Effect : Type 0 where
@@ -91,9 +92,9 @@ keeping s k c m a = with_voter s (record { floor = 3 * k - 2; suspects = s.voter
 abbrev pub called_for : State → Entry → ℕ
 called_for s low = cond (low.earlier == 0) (manager s) low.change
 
--- A leader with one message more at its place of the table.
-abbrev pub gained : Leader → ℕ → ℕ → ℕ → Leader
-gained l i b t = record { stand = l.stand; counts = slice_set l.counts i (counted (count_at l i) b t); entries = l.entries; lowest = l.lowest; proof = l.proof }
+-- A leader with one message more in its slot.
+abbrev pub gained : Leader → Slot → ℕ → ℕ → Leader
+gained l w b t = record { stand = l.stand; counts = slice_set l.counts (place_of w) (counted (count_at l w) b t); entries = l.entries; lowest = l.lowest; proof = l.proof }
 
 abbrev pub standing : Leader → Stand → Leader
 standing l w = record { stand = w; counts = l.counts; entries = l.entries; lowest = l.lowest; proof = l.proof }
@@ -107,38 +108,38 @@ abbrev pub told : Leader → ℕ → ℕ → Entry → Count → Leader
 told l b t e p =
     record {
       stand = l.stand;
-      counts = slice_set l.counts 11 (counted (count_at l 11) b t);
+      counts = slice_set l.counts (place_of Slot.Last) (counted (count_at l Slot.Last) b t);
       entries = slice_set l.entries b e;
       lowest = cond (undercuts e l.lowest) e l.lowest;
       proof = cond (undercuts e l.lowest) p l.proof;
     }
 
--- Once a count at place i has so many boards, the leader stands so and sends a certificate; before that nothing is sent.
-abbrev pub filled : State → Leader → ℕ → ℕ → Stand → Effect → Outcome
-filled s l i least w e = cond (size (count_at l i).set.bits == least) (with_leader s (standing l w), e) (with_leader s l, Effect.silent)
+-- Once the count in a slot has so many boards, the leader stands so and sends a certificate; before that nothing is sent.
+abbrev pub filled : State → Leader → Slot → ℕ → Stand → Effect → Outcome
+filled s l w least stand e = cond (size (count_at l w).set.bits == least) (with_leader s (standing l stand), e) (with_leader s l, Effect.silent)
 
-abbrev pub set_at : Leader → ℕ → ℕ
-set_at l i = (count_at l i).set.bits
+abbrev pub set_at : Leader → Slot → ℕ
+set_at l w = (count_at l w).set.bits
 
-abbrev pub tags_at : Leader → ℕ → List ℕ
-tags_at l i = count_tags (count_at l i)
+abbrev pub tags_at : Leader → Slot → List ℕ
+tags_at l w = count_tags (count_at l w)
 
 abbrev pub suggests : State → Leader → ℕ → Effect
-suggests s l c = Effect.sends (group s) (Msg.suggest (latest s) c (set_at l c) (tags_at l c))
+suggests s l c = Effect.sends (group s) (Msg.suggest (latest s) c (set_at l (Slot.Notify c)) (tags_at l (Slot.Notify c)))
 
 abbrev pub proposes : State → Leader → ℕ → ℕ → Effect
-proposes s l k c = Effect.sends (group s) (Msg.proposal (latest s) k c (set_at l 8) (tags_at l 8))
+proposes s l k c = Effect.sends (group s) (Msg.proposal (latest s) k c (set_at l Slot.Ack) (tags_at l Slot.Ack))
 
 abbrev pub changes : State → Leader → ℕ → ℕ → Effect
-changes s l k c = Effect.sends 255 (Msg.change (latest s) k c (set_at l 9) (tags_at l 9))
+changes s l k c = Effect.sends 255 (Msg.change (latest s) k c (set_at l Slot.Ready) (tags_at l Slot.Ready))
 
 abbrev pub queries : State → Leader → ℕ → Effect
-queries s l k = Effect.sends (group s) (Msg.query (latest s) k (set_at l 10) (tags_at l 10))
+queries s l k = Effect.sends (group s) (Msg.query (latest s) k (set_at l Slot.Deputy) (tags_at l Slot.Deputy))
 
 abbrev pub suggests_last : State → Leader → ℕ → Effect
 suggests_last s l k =
     Effect.sends (group s)
-    (Msg.suggest_last (latest s) k (set_at l 11) (stored_replies (set_at l 11) l.entries (count_at l 11).tags) l.proof.set.bits (count_tags l.proof))
+    (Msg.suggest_last (latest s) k (set_at l Slot.Last) (stored_replies (set_at l Slot.Last) l.entries (count_at l Slot.Last).tags) l.proof.set.bits (count_tags l.proof))
 
 -- The boards that a member passes a change on to: the f + 1 ranks after its own, counted round, itself left out, and every board outside the view that ends.
 abbrev pub after : State → ℕ → ℕ
@@ -153,20 +154,20 @@ passes s m = cond (inside s) (Effect.sends (set_of (passed_on s) 8) m) Effect.si
 -- What each kind does.
 abbrev pub heard : State → Msg → Outcome
 heard s (Msg.notify v c b t) =
-    let l = gained s.leader c b (tag_number t) in filled s l c (share (many s) + 1) (Acks c) (suggests s l c)
+    let l = gained s.leader (Slot.Notify c) b (tag_number t) in filled s l (Slot.Notify c) (share (many s) + 1) (Acks c) (suggests s l c)
 heard s (Msg.suggest v c a t) = (with_floor s (3 * many s - 1), acks s (many s) c)
 heard s (Msg.ack v k c b t) =
-    let l = gained s.leader 8 b (tag_number t) in filled s l 8 (quorum (many s)) (Readies c) (proposes s l k c)
+    let l = gained s.leader Slot.Ack b (tag_number t) in filled s l Slot.Ack (quorum (many s)) (Readies c) (proposes s l k c)
 heard s (Msg.proposal v k c a t) = (keeping s k c (Msg.proposal v k c a t) a, readies s k c)
 heard s (Msg.ready v k c b t) =
-    let l = gained s.leader 9 b (tag_number t) in filled s l 9 (quorum (many s)) Done (changes s l k c)
+    let l = gained s.leader Slot.Ready b (tag_number t) in filled s l Slot.Ready (quorum (many s)) Done (changes s l k c)
 heard s (Msg.change v k c a t) = (fresh s.board (grown s.views c), passes s (Msg.change v k c a t))
 heard s (Msg.deputy v k b t) =
-    let l = gained s.leader 10 b (tag_number t) in filled s l 10 (share (many s) + 1) Lasts (queries s l k)
+    let l = gained s.leader Slot.Deputy b (tag_number t) in filled s l Slot.Deputy (share (many s) + 1) Lasts (queries s l k)
 heard s (Msg.query v k a t) = (with_floor s (3 * k), tells s k)
 heard s (Msg.last v k b e p ak) =
     let l = told s.leader b (tag_number e.tag) e.entry (proof_count p ak) in
-    filled s l 11 (quorum (many s)) (Acks (called_for s l.lowest)) (suggests_last s l k)
+    filled s l Slot.Last (quorum (many s)) (Acks (called_for s l.lowest)) (suggests_last s l k)
 heard s (Msg.suggest_last v k a es p ak) = (with_floor s (3 * k - 1), acks s k (called_for s (lowest es)))
 heard s (Msg.init v b n k p t) = (s, Effect.silent)
 heard s (Msg.echo v b n k p d t) = (s, Effect.silent)

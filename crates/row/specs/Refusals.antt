@@ -1,6 +1,6 @@
 -- Why a call at a row is refused: each reason is a test of its own, and the answer is the first that holds, in the order of docs/REFUSALS.md.
 -- Messages of kinds 11 to 13 are not of this layer; no test speaks of them.
-use Rattle.std.specs.Prelude.{ℕ, ◌+◌, ◌-◌, ◌*◌, Bool, true, false, cond, not, ◌&&◌, ◌||◌, List, [], ◌∷◌, Some, None, Option, ◌==◌, nat_le, nat_lt, slice_index_or}
+use Rattle.std.specs.Prelude.{◌≡◌, ℕ, ◌+◌, ◌-◌, ◌*◌, Bool, true, false, cond, not, ◌&&◌, ◌||◌, List, [], ◌∷◌, Some, None, Option, Ok, Err, Result, ◌==◌, nat_le, nat_lt, slice_index_or}
 use Rattle.boards.specs.Boards.{member, size, place, only}
 use Rattle.codes.specs.declared.Refusal.{Refusal}
 use Rattle.codes.specs.declared.Refusal.TheVariants.{Board, Out, View, Member, Change, Turn, Late, Known, Size, Split, Tag, Spent}
@@ -8,6 +8,7 @@ use Rattle.views.specs.Shares.{share, quorum}
 use Rattle.wire.specs.declared.message.Entry.{Entry}
 use Rattle.wire.specs.Messages.{Msg, Reply, view_of}
 use Rattle.wire.specs.Acts.{lowest, no_reply}
+use Rattle.row.specs.declared.state.Slot.{Slot}
 use Rattle.row.specs.declared.state.State.{State}
 use Rattle.row.specs.States.{latest, group, many, manager, inside, at_rank, is_idle, awaits_acks, awaits_readies, awaits_lasts, count_at}
 use Rattle.boards.specs.Boards.{any}
@@ -16,6 +17,11 @@ use Rattle.boards.specs.Boards.{any}
 abbrev pub first_of : List (Bool × Refusal) → Option Refusal
 first_of [] = None
 first_of (r ∷ rs) = cond r.0 (Some r.1) (first_of rs)
+
+-- A call goes on exactly if no reason holds; if one does, it is the answer.
+abbrev pub Unless : Option Refusal → Result (Unit {0}) Refusal → Type 0
+Unless why (Ok _) = why ≡ None
+Unless why (Err e) = why ≡ Some e
 
 -- OUT: fewer than 128 bytes are offered.
 abbrev pub short : ℕ → Bool
@@ -106,36 +112,20 @@ late s (Msg.init v b n k p t) = false
 late s (Msg.echo v b n k p d t) = false
 late s (Msg.commit v b n k p a t) = false
 
--- The place of the table at which a lone message is counted: notifies by their change, then acks, readies, deputies, lasts.
-abbrev pub slot : Msg → ℕ
-slot (Msg.notify v c b t) = c
-slot (Msg.suggest v c a t) = 12
-slot (Msg.ack v k c b t) = 8
-slot (Msg.proposal v k c a t) = 12
-slot (Msg.ready v k c b t) = 9
-slot (Msg.change v k c a t) = 12
-slot (Msg.deputy v k b t) = 10
-slot (Msg.query v k a t) = 12
-slot (Msg.last v k b e p ak) = 11
-slot (Msg.suggest_last v k a es p ak) = 12
-slot (Msg.init v b n k p t) = 12
-slot (Msg.echo v b n k p d t) = 12
-slot (Msg.commit v b n k p a t) = 12
-
 -- KNOWN: the speaker is counted already.
-abbrev pub counted_already : State → Msg → ℕ → Bool
-counted_already s m b = member (count_at s.leader (slot m)).set.bits b
+abbrev pub counted_already : State → Slot → ℕ → Bool
+counted_already s w b = member (count_at s.leader w).set.bits b
 
 abbrev pub known : State → Msg → Bool
-known s (Msg.notify v c b t) = counted_already s (Msg.notify v c b t) b
+known s (Msg.notify v c b t) = counted_already s (Slot.Notify c) b
 known s (Msg.suggest v c a t) = false
-known s (Msg.ack v k c b t) = counted_already s (Msg.ack v k c b t) b
+known s (Msg.ack v k c b t) = counted_already s Slot.Ack b
 known s (Msg.proposal v k c a t) = false
-known s (Msg.ready v k c b t) = counted_already s (Msg.ready v k c b t) b
+known s (Msg.ready v k c b t) = counted_already s Slot.Ready b
 known s (Msg.change v k c a t) = false
-known s (Msg.deputy v k b t) = counted_already s (Msg.deputy v k b t) b
+known s (Msg.deputy v k b t) = counted_already s Slot.Deputy b
 known s (Msg.query v k a t) = false
-known s (Msg.last v k b e p ak) = counted_already s (Msg.last v k b e p ak) b
+known s (Msg.last v k b e p ak) = counted_already s Slot.Last b
 known s (Msg.suggest_last v k a es p ak) = false
 known s (Msg.init v b n k p t) = false
 known s (Msg.echo v b n k p d t) = false

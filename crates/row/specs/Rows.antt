@@ -5,6 +5,7 @@ use Rattle.boards.specs.Boards.{member, size}
 use Rattle.wire.specs.declared.message.Entry.{Entry}
 use Rattle.wire.specs.Messages.{none}
 use Rattle.row.specs.declared.state.Kept.{Kept}
+use Rattle.row.specs.declared.state.Slot.TheVariants.{Last}
 use Rattle.row.specs.declared.state.Voter.{Voter}
 use Rattle.row.specs.declared.state.Leader.{Leader}
 use Rattle.row.specs.States.{count_at}
@@ -25,7 +26,7 @@ keeps v = shown v.kept v.support.set.bits
 
 -- The boards whose lasts are counted, and the entry of each.
 abbrev pub tellers : Leader → ℕ
-tellers l = (count_at l 11).set.bits
+tellers l = (count_at l Last).set.bits
 
 abbrev pub entry_told : Leader → ℕ → Entry
 entry_told l b = slice_index_or l.entries b none

@@ -9,6 +9,8 @@ use Rattle.wire.specs.declared.message.Entry.{Entry}
 use Rattle.wire.specs.Messages.{none, stored_tags}
 use Rattle.row.specs.declared.state.Count.{Count}
 use Rattle.row.specs.declared.state.Kept.{Kept}
+use Rattle.row.specs.declared.state.Slot.{Slot}
+use Rattle.row.specs.declared.state.Slot.TheVariants.{Notify, Ack, Ready, Deputy, Last}
 use Rattle.row.specs.declared.state.Stand.{Stand}
 use Rattle.row.specs.declared.state.Stand.TheVariants.{Idle, Acks, Readies, Lasts, Done}
 use Rattle.row.specs.declared.state.Voter.{Voter}
@@ -92,12 +94,20 @@ awaits_lasts (Readies c) = false
 awaits_lasts Lasts = true
 awaits_lasts Done = false
 
--- Nothing counted; what is counted at a place of the table; one more counted.
+-- The place of a slot in the table of counts: notifies by their change, then acks, readies, deputies, lasts.
+abbrev pub place_of : Slot → ℕ
+place_of (Notify c) = c
+place_of Ack = 8
+place_of Ready = 9
+place_of Deputy = 10
+place_of Last = 11
+
+-- Nothing counted; what is counted in a slot; one more counted.
 abbrev pub no_count : Count
 no_count = record { set = the_set 0; tags = replicate 8 0 }
 
-abbrev pub count_at : Leader → ℕ → Count
-count_at l i = slice_index_or l.counts i no_count
+abbrev pub count_at : Leader → Slot → Count
+count_at l w = slice_index_or l.counts (place_of w) no_count
 
 abbrev pub counted : Count → ℕ → ℕ → Count
 counted c b t = record { set = the_set (insert c.set.bits b); tags = slice_set c.tags b t }

@@ -2,33 +2,21 @@
 // Rules: docs/RULES.md, "The row".
 ghost use Rattle.std.specs.Prelude.{◌≡◌, ℕ, true, false};
 ghost use Rattle.boards.specs.Boards.{member, size};
-ghost use Rattle.row.specs.States.{latest_members, new_voter, new_leader};
+ghost use Rattle.row.specs.States.{new_voter, new_leader};
 ghost use Rattle.row.specs.Rows.{keeps, tells, proves};
 
 use crate::state::{Count, Leader, Stand, Voter};
 use boards::Set;
-use views::history::Views;
 use views::view::View;
 use wire::message::Entry;
-
-const NO_COUNT: Count = Count {
-    set: Set::EMPTY,
-    tags: [0; 8],
-};
 
 const NO_ENTRY: Entry = Entry {
     earlier: 0,
     change: 0,
 };
 
-// The latest view.
-pub(crate) fn latest_view(views: &Views) -> View
-    ensures { result.set.bits ≡ latest_members views.now.history }
-{
-    views.current()
-}
-
 // The floor is three times the members, nobody is suspect and nothing is kept.
+#[tactic(auto, using(boards::proofs::Members::member_none), unfolding(crate::specs::Rows::keeps))]
 pub(crate) fn voter(view: &View) -> Voter
     ensures is { result ≡ new_voter (size view.now.set.bits) }
     ensures keeps { keeps result ≡ true }
@@ -38,11 +26,12 @@ pub(crate) fn voter(view: &View) -> Voter
         floor: 3 * view.len(),
         suspects: Set::EMPTY,
         kept: None,
-        support: NO_COUNT,
+        support: Count::NONE,
     }
 }
 
 // Idle, and nothing counted.
+#[tactic(auto, unfolding(crate::specs::Rows::tells, crate::specs::Rows::proves, boards::specs::Boards::every, boards::specs::Boards::member))]
 pub(crate) fn leader() -> Leader
     ensures is { result ≡ new_leader }
     ensures tells { tells result ≡ true }
@@ -50,9 +39,9 @@ pub(crate) fn leader() -> Leader
 {
     Leader {
         stand: Stand::Idle,
-        counts: [NO_COUNT; 12],
+        counts: [Count::NONE; 12],
         entries: [NO_ENTRY; 8],
         lowest: NO_ENTRY,
-        proof: NO_COUNT,
+        proof: Count::NONE,
     }
 }

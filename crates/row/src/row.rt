@@ -3,11 +3,11 @@
 ghost use Rattle.std.specs.Prelude.{◌≡◌, ◌<◌, ◌≤◌, true, false, MatchResult};
 ghost use Rattle.boards.specs.Boards.{member};
 ghost use Rattle.codes.specs.declared.Refusal.TheVariants.{Board};
-ghost use Rattle.views.specs.Histories.{begun, members_of, Counted, ByBoards, Peopled};
-ghost use Rattle.row.specs.States.{fresh, group, latest};
+ghost use Rattle.views.specs.Histories.{begun, members_of, Sound};
+ghost use Rattle.row.specs.States.{fresh, group, latest, manager};
 ghost use Rattle.row.specs.Rows.{keeps, tells, proves};
 
-use crate::fresh::{latest_view, leader, voter};
+use crate::fresh::{leader, voter};
 use crate::state::State;
 use boards::Set;
 use codes::Refusal;
@@ -18,9 +18,7 @@ use views::view::View;
 pub struct Row {
     pub state: State,
     ghost seated: { state.board < 8 },
-    ghost counted: { Counted state.views },
-    ghost boards: { ByBoards state.views },
-    ghost peopled: { Peopled state.views },
+    ghost sound: { Sound state.views },
     ghost keeps: { keeps state.voter ≡ true },
     ghost tells: { tells state.leader ≡ true },
     ghost proves: { proves state.leader ≡ true },
@@ -45,11 +43,12 @@ impl Row {
         Row::fresh(self.board(), views)
     }
 
+    #[tactic(auto, unfolding(crate::specs::States::latest_members))]
     fn fresh(board: u8, views: Views) -> Row
         requires { board < 8 }
         ensures { result.state ≡ fresh board views.history }
     {
-        let view = latest_view(&views);
+        let view = views.current();
         Row {
             state: State {
                 board,
@@ -76,10 +75,19 @@ impl Row {
     }
 
     // Its latest view.
+    #[tactic(auto, unfolding(crate::specs::States::latest_members))]
     pub fn view(&self) -> View
         ensures { result.set.bits ≡ group self.now.state }
     {
-        latest_view(&self.views())
+        self.views().current()
+    }
+
+    // The manager of its latest view.
+    pub fn manager(&self) -> u8
+        ensures is { result ≡ manager self.now.state }
+        ensures below { result < 8 }
+    {
+        self.view().manager()
     }
 
     // The members of the v-th view; no boards unless v is 1 to the latest.
@@ -89,6 +97,7 @@ impl Row {
         self.views().members(v)
     }
 
+    // Its views: the state has them as plain values, so that specs and proofs compare states whole; the row knows that they are sound.
     fn views(&self) -> Views
         ensures { result.history ≡ self.now.state.views }
     {

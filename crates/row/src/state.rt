@@ -1,5 +1,8 @@
 // The state of a row: plain values, fixed memory. A new view makes voter and leader anew.
 // Rules: docs/RULES.md, "The row".
+ghost use Rattle.std.specs.Prelude.{◌≡◌, ◌<◌, length};
+ghost use Rattle.row.specs.States.{count_at, place_of};
+
 use boards::Set;
 use views::history::History;
 use wire::message::Entry;
@@ -11,6 +14,38 @@ pub struct Count {
     pub tags: [u64; 8],
 }
 
+impl Count {
+    pub const NONE: Count = Count {
+        set: Set::EMPTY,
+        tags: [0; 8],
+    };
+}
+
+// Which of a leader's counts a lone message goes to: notifies are counted change by change, the other kinds once each.
+#[derive(Clone, Copy)]
+pub enum Slot {
+    Notify(u8),
+    Ack,
+    Ready,
+    Deputy,
+    Last,
+}
+
+impl Slot {
+    // Its place in the table of counts.
+    pub fn place(self) -> u8
+        ensures { result ≡ place_of self }
+    {
+        match self {
+            Slot::Notify(change) => change,
+            Slot::Ack => 8,
+            Slot::Ready => 9,
+            Slot::Deputy => 10,
+            Slot::Last => 11,
+        }
+    }
+}
+
 // A proposal that the row keeps.
 #[derive(Clone, Copy)]
 pub struct Kept {
@@ -19,7 +54,7 @@ pub struct Kept {
 }
 
 // Where the row stands as manager or deputy.
-#[derive(Clone, Copy)]
+#[derive(Clone, Copy, PartialEq, Eq)]
 pub enum Stand {
     Idle,
     Acks { change: u8 },
@@ -38,7 +73,7 @@ pub struct Voter {
     pub support: Count,
 }
 
-// What the row counts as manager or deputy: notifies for each change at 0 to 7, acks at 8, readies at 9, deputies at 10, lasts at 11;
+// What the row counts as manager or deputy, slot by slot;
 // the entries of the lasts by board number; the lowest earlier rank among them, and the proof that was first heard with it.
 #[derive(Clone, Copy)]
 pub struct Leader {
@@ -47,6 +82,20 @@ pub struct Leader {
     pub entries: [Entry; 8],
     pub lowest: Entry,
     pub proof: Count,
+}
+
+impl Leader {
+    // What is counted in a slot; nothing past the table.
+    pub fn at(&self, slot: Slot) -> Count
+        ensures is { result ≡ count_at self.now slot }
+        ensures byte { result.set.bits < 256 }
+        ensures table { length self.now.counts ≡ 12 }
+    {
+        self.counts
+            .get(slot.place() as usize)
+            .copied()
+            .unwrap_or(Count::NONE)
+    }
 }
 
 #[derive(Clone, Copy)]

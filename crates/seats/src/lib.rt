@@ -1,10 +1,10 @@
-// Who sits where in a row's latest view: the member of a rank, the manager, and the board that an earlier rank calls for.
+// Who sits where in a row's latest view: the member of a rank, and the board that an earlier rank calls for.
 // Words of the contracts: specs of crate row, States.antt and Effects.antt.
 #![tactic(auto)]
 
 ghost use Rattle.std.specs.Prelude.{◌≡◌, ◌<◌};
 ghost use Rattle.boards.specs.Boards.{only};
-ghost use Rattle.row.specs.States.{group, insert, manager, seat};
+ghost use Rattle.row.specs.States.{group, insert, seat};
 ghost use Rattle.row.specs.Effects.{called_for};
 
 use boards::Set;
@@ -15,18 +15,7 @@ use wire::message::Entry;
 pub fn seat(row: &Row, rank: u8) -> Set
     ensures { result.bits ≡ only (seat (group row.now.state) rank) }
 {
-    match row.view().at(rank) {
-        Some(board) => Set::only(board),
-        None => Set::EMPTY,
-    }
-}
-
-// The manager of the row's latest view.
-pub fn manager(row: &Row) -> u8
-    ensures is { result ≡ manager row.now.state }
-    ensures below { result < 8 }
-{
-    row.view().manager()
+    row.view().at(rank).map_or(Set::EMPTY, Set::only)
 }
 
 // The change that the lowest earlier rank calls for: its own, or the manager where there is none.
@@ -35,24 +24,15 @@ pub fn called_for(row: &Row, low: Entry) -> u8
     ensures below { low.change < 8 → result < 8 }
 {
     if low.earlier == 0 {
-        manager(row)
+        row.manager()
     } else {
         low.change
     }
 }
 
-// The set of a byte.
-pub fn set_of(bits: u8) -> Set
-    ensures is { result.bits ≡ bits }
-    ensures byte { result.bits < 256 }
-{
-    Set { bits }
-}
-
-// A set with one board more.
+// A set with one board more, as the equation that specs speak of; a set's own call tells it member by member.
 pub fn insert(set: Set, board: u8) -> Set
     ensures { result.bits ≡ insert set.bits board }
 {
-    let old = set_of(set.bits);
-    set_of(old.with(board).bits)
+    set.with(board)
 }

@@ -17,14 +17,18 @@ abbrev pub GoesOut : ℕ → Msg → List ℕ → Option Sent → List ℕ → T
 GoesOut to m out (Some a) out2 = Formed m × Posted to m out a out2
 GoesOut to m out None out2 = (Formed m → length (form m) ≤ length out → ⊥) × (out2 ≡ out)
 
--- A board can send the lone message of an act: it is formed with any tag, 128 bytes are offered, and the scheme is not spent.
-pub record Speakable (board : ℕ) (act : Act) (proof : ℕ) (acks : List ℕ) (room : ℕ) (spent : Bool) : Type 0 where
-  pub seated : board < 8
-  pub formed : (t : ℕ) → Formed (lone act board proof acks (tag_bytes t))
-  pub roomy : 128 ≤ room
-  pub unspent : spent ≡ false
-
 module _ {S : Type 0} (g : Ghosts S) where
+  -- A board can send what it has to: the bytes offered are enough for every message, and the scheme is not spent.
+  pub record Able (s : S) (out : List ℕ) : Type 0 where
+    pub roomy : 128 ≤ length out
+    pub unspent : g.spent s ≡ false
+
+  -- A board can send the lone message of an act: there is such a board, and the message is formed with any tag.
+  pub record Speakable (board : ℕ) (act : Act) (proof : ℕ) (acks : List ℕ) (s : S) (out : List ℕ) : Type 0 where
+    pub seated : board < 8
+    pub formed : (t : ℕ) → Formed (lone act board proof acks (tag_bytes t))
+    pub able : Able s out
+
   -- A board signs an allowed act exactly if the scheme is not spent; else nothing changes.
   abbrev pub SignsFor : ℕ → Act → S → Option ℕ → S → Type 0
   SignsFor board act s (Some tag) s2 = Allowed act × Signed (g.good s) (g.good s2) (g.spent s) board (words act) tag
@@ -33,7 +37,7 @@ module _ {S : Type 0} (g : Ghosts S) where
   -- A board sends the lone message of an act exactly if it can; else nothing changes.
   abbrev pub Speaks : ℕ → ℕ → Act → ℕ → List ℕ → List ℕ → S → Option Sent → S → List ℕ → Type 0
   Speaks board to act proof acks out s (Some a) s2 out2 = Signs g board to act proof acks out s a s2 out2
-  Speaks board to act proof acks out s None s2 out2 = (Speakable board act proof acks (length out) (g.spent s) → ⊥) × (s2 ≡ s) × (out2 ≡ out)
+  Speaks board to act proof acks out s None s2 out2 = (Speakable board act proof acks s out → ⊥) × (s2 ≡ s) × (out2 ≡ out)
 
   -- What an accepted call leaves: the state and the effect of its outcome.
   abbrev pub Did : Outcome → State → S → List ℕ → Sent → State → S → List ℕ → Type 0

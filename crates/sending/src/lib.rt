@@ -3,19 +3,20 @@
 #![tactic(auto)]
 
 ghost use Rattle.std.specs.Prelude.{◌≡◌, [], Decides};
-ghost use Rattle.wire.specs.Messages.{meaning, stored_tags, tag_bytes};
+ghost use Rattle.wire.specs.Messages.{meaning, tag_bytes};
 ghost use Rattle.wire.specs.Format.{Formed};
 ghost use Rattle.words.specs.Said.{said};
+ghost use Rattle.row.specs.States.{count_tags};
 ghost use Rattle.row.specs.Effects.{lone};
 ghost use Rattle.sending.specs.Sends.{GoesOut, SignsFor, Speaks};
 
 use boards::Set;
 use layout::lay::lay_out;
-use row::state::Sent;
+use row::state::{Count, Sent};
 use schemes::Scheme;
 use wire::message::{Message, Tags};
 use words::statement::Statement;
-use writer::{Unwritten, write};
+use writer::write;
 
 // The bytes that are enough for every message that a board sends.
 const ENOUGH: usize = 128;
@@ -24,32 +25,22 @@ const ENOUGH: usize = 128;
 pub fn is_formed(m: &Message<'_>) -> bool
     ensures { Decides result (Formed (meaning m.now)) }
 {
-    match lay_out(m) {
-        Some(_) => true,
-        None => false,
-    }
+    lay_out(m).is_some()
 }
 
 // Writes a message to these boards; none if it is not formed or there is no room for it, and then no byte changes.
+// An `Option`, with no error: every caller knows that neither holds, and none asks which.
 pub fn post(m: &Message<'_>, to: Set, out: &mut [u8]) -> Option<Sent>
     ensures { GoesOut to.bits (meaning m.now) out.old result out.new }
 {
-    match write(m, out) {
-        Ok(length) => Some(Sent { to, length }),
-        Err(Unwritten::NoMessage) => None,
-        Err(Unwritten::Out) => None,
-    }
+    let length = write(m, out).ok()?;
+    Some(Sent { to, length })
 }
 
-// The lone message of a statement: its speaker, in a last its proof, and the tag.
-fn lone<'a>(
-    statement: &Statement<'a>,
-    board: u8,
-    proof: Set,
-    acks: &'a [u64; 8],
-    tag: u64,
-) -> Message<'a>
-    ensures { meaning result ≡ lone (said statement.now) board proof.bits (stored_tags proof.bits acks.now) (tag_bytes tag) }
+// The lone message of a statement: its speaker, in a last what it has to show, and the tag.
+// Not a `From`: a message takes these three besides the statement.
+fn lone<'a>(statement: &Statement<'a>, board: u8, shown: &'a Count, tag: u64) -> Message<'a>
+    ensures { meaning result ≡ lone (said statement.now) board shown.now.set.bits (count_tags shown.now) (tag_bytes tag) }
 {
     let tag = Tags::Fresh(tag);
     match *statement {
@@ -85,8 +76,8 @@ fn lone<'a>(
             speaker: board,
             entry,
             tag,
-            proof,
-            acks: Tags::Stored(acks),
+            proof: shown.set,
+            acks: Tags::Stored(&shown.tags),
         },
         Statement::Init { view, content } => Message::Init { view, content, tag },
         Statement::Echo { view, content } => Message::Echo {
@@ -103,10 +94,7 @@ fn signed<S: Scheme>(scheme: &mut S, board: u8, statement: &Statement<'_>) -> Op
     ensures { SignsFor S.Scheme board (said statement.now) scheme.old result scheme.new }
 {
     let words = statement.words()?;
-    match scheme.sign(board, words.as_slice()) {
-        Ok(tag) => Some(tag),
-        Err(_) => None,
-    }
+    scheme.sign(board, words.as_slice()).ok()
 }
 
 // Signs a statement and writes its lone message; none if the board cannot, and then nothing changes.
@@ -114,26 +102,20 @@ pub fn speak<'a, S: Scheme>(
     scheme: &mut S,
     board: u8,
     statement: Statement<'a>,
-    proof: Set,
-    acks: &'a [u64; 8],
+    shown: &'a Count,
     to: Set,
     out: &mut [u8],
 ) -> Option<Sent>
-    ensures { Speaks S.Scheme board to.bits (said statement.entry) proof.bits (stored_tags proof.bits acks.now) out.old scheme.old result scheme.new out.new }
+    ensures { Speaks S.Scheme board to.bits (said statement.entry) shown.now.set.bits (count_tags shown.now) out.old scheme.old result scheme.new out.new }
 {
-    if out.len() < ENOUGH {
+    if out.len() < ENOUGH || !is_formed(&lone(&statement, board, shown, 0)) {
         return None;
     }
-    if !is_formed(&lone(&statement, board, proof, acks, 0)) {
-        return None;
-    }
-    let Some(tag) = signed(scheme, board, &statement) else {
-        return None;
-    };
-    post(&lone(&statement, board, proof, acks, tag), to, out)
+    let tag = signed(scheme, board, &statement)?;
+    post(&lone(&statement, board, shown, tag), to, out)
 }
 
-// The same for a statement that has no proof.
+// The same for a statement that has nothing to show.
 pub fn say<S: Scheme>(
     scheme: &mut S,
     board: u8,
@@ -143,5 +125,5 @@ pub fn say<S: Scheme>(
 ) -> Option<Sent>
     ensures { Speaks S.Scheme board to.bits (said statement.entry) 0 [] out.old scheme.old result scheme.new out.new }
 {
-    speak(scheme, board, statement, Set::EMPTY, &[0; 8], to, out)
+    speak(scheme, board, statement, &Count::NONE, to, out)
 }

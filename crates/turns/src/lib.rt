@@ -4,58 +4,18 @@
 
 ghost use Rattle.std.specs.Prelude.{◌≡◌, ◌-◌, ◌*◌};
 ghost use Rattle.wire.specs.Messages.{meaning};
-ghost use Rattle.row.specs.States.{at_rank, count_at, is_idle, awaits_acks, awaits_readies, awaits_lasts};
-ghost use Rattle.row.specs.Refusals.{untimely, late, known};
+ghost use Rattle.row.specs.States.{at_rank};
+ghost use Rattle.row.specs.Refusals.{untimely, late, known, counted_already};
 
-use boards::Set;
 use row::row::Row;
-use row::state::Stand;
+use row::state::{Slot, Stand};
 use wire::message::Message;
 
 // Whether the row's board has this rank in the latest view.
 fn at_rank(row: &Row, rank: u8) -> bool
     ensures { result ≡ at_rank row.now.state rank }
 {
-    match row.view().rank(row.board()) {
-        Some(own) => own == rank,
-        None => false,
-    }
-}
-
-fn is_idle(stand: Stand) -> bool
-    ensures { result ≡ is_idle stand }
-{
-    match stand {
-        Stand::Idle => true,
-        _ => false,
-    }
-}
-
-fn awaits_acks(change: u8, stand: Stand) -> bool
-    ensures { result ≡ awaits_acks change stand }
-{
-    match stand {
-        Stand::Acks { change: c } => c == change,
-        _ => false,
-    }
-}
-
-fn awaits_readies(change: u8, stand: Stand) -> bool
-    ensures { result ≡ awaits_readies change stand }
-{
-    match stand {
-        Stand::Readies { change: c } => c == change,
-        _ => false,
-    }
-}
-
-fn awaits_lasts(stand: Stand) -> bool
-    ensures { result ≡ awaits_lasts stand }
-{
-    match stand {
-        Stand::Lasts => true,
-        _ => false,
-    }
+    row.view().rank(row.board()) == Some(rank)
 }
 
 // TURN: a lone message is counted only by the rank it is for, at the moment it is waited for.
@@ -64,12 +24,13 @@ pub fn untimely(row: &Row, m: &Message<'_>) -> bool
 {
     let stand = row.state.leader.stand;
     match *m {
-        Message::Notify { .. } => !(at_rank(row, row.view().len()) && is_idle(stand)),
-        Message::Ack { rank, change, .. } => !(at_rank(row, rank) && awaits_acks(change, stand)),
+        Message::Notify { .. } => !(at_rank(row, row.view().len()) && stand == Stand::Idle),
+        Message::Ack { rank, change, .. } => !(at_rank(row, rank)
+            && stand == Stand::Acks { change }),
         Message::Ready { rank, change, .. } => !(at_rank(row, rank)
-            && awaits_readies(change, stand)),
-        Message::Deputy { rank, .. } => !(at_rank(row, rank) && is_idle(stand)),
-        Message::Last { rank, .. } => !(at_rank(row, rank) && awaits_lasts(stand)),
+            && stand == Stand::Readies { change }),
+        Message::Deputy { rank, .. } => !(at_rank(row, rank) && stand == Stand::Idle),
+        Message::Last { rank, .. } => !(at_rank(row, rank) && stand == Stand::Lasts),
         _ => false,
     }
 }
@@ -95,14 +56,11 @@ pub fn late(row: &Row, m: &Message<'_>) -> bool
     }
 }
 
-// The boards counted at this place of the table; past the table there are none.
-fn counted_at(row: &Row, place: u8) -> Set
-    ensures { result ≡ (count_at row.now.state.leader place).set }
+// Whether the board's message for this slot is counted.
+fn counted_already(row: &Row, slot: Slot, board: u8) -> bool
+    ensures { result ≡ counted_already row.now.state slot board }
 {
-    match row.state.leader.counts.get(place as usize) {
-        Some(count) => count.set,
-        None => Set::EMPTY,
-    }
+    row.state.leader.at(slot).set.has(board)
 }
 
 // KNOWN: the speaker is counted already.
@@ -114,11 +72,11 @@ pub fn known(row: &Row, m: &Message<'_>) -> bool
             change,
             speaker,
             ..
-        } => counted_at(row, change).has(speaker),
-        Message::Ack { speaker, .. } => counted_at(row, 8).has(speaker),
-        Message::Ready { speaker, .. } => counted_at(row, 9).has(speaker),
-        Message::Deputy { speaker, .. } => counted_at(row, 10).has(speaker),
-        Message::Last { speaker, .. } => counted_at(row, 11).has(speaker),
+        } => counted_already(row, Slot::Notify(change), speaker),
+        Message::Ack { speaker, .. } => counted_already(row, Slot::Ack, speaker),
+        Message::Ready { speaker, .. } => counted_already(row, Slot::Ready, speaker),
+        Message::Deputy { speaker, .. } => counted_already(row, Slot::Deputy, speaker),
+        Message::Last { speaker, .. } => counted_already(row, Slot::Last, speaker),
         _ => false,
     }
 }

@@ -131,3 +131,11 @@ grown_sound h c s o =
           ⊎_elim (λ e. subst (λ n. 1 ≤ size n) (sym (ap (members_of (grown h c)) e ∙ grown_members h c k.2 room)) o.some)
           (λ ne. subst (λ n. 1 ≤ size n) (sym (grown_stay h c v (omega arith))) (s.peopled v l (omega arith))) (cases_eq v (h.latest + 1));
     }
+
+-- A change of a board that leaves a member is open while there is a view left.
+pub opens : (h : History) (c group next : ℕ) → Sound h → c < 8 → h.latest ≢ 64 → group ≡ members_of h h.latest → next ≡ toggle group c → 1 ≤ size next → Open h c
+opens h c group next s b ne now then some = record {
+  board = b;
+  room = omega (arith, s.counted.3);
+  some = subst (λ n. 1 ≤ size n) (then ∙ ap (λ g. toggle g c) now) some;
+}

@@ -1,79 +1,41 @@
 // The views of a row, one after another: view 1, and the change that led to each later view, 64 views at most.
 // Rule: docs/RULES.md, "Views, shares and ranks". Words of the contracts: specs/Histories.antt.
-ghost use Rattle.std.specs.Prelude.{◌≡◌, ◌+◌, ◌<◌, ◌≤◌};
-ghost use Rattle.boards.specs.Boards.{size};
-ghost use Rattle.views.specs.Histories.{members_of, Led, begun, grown, Counted, ByBoards, Peopled, Sound, Open, Defines};
+ghost use Rattle.std.specs.Prelude.{◌≡◌, ◌≤◌};
+ghost use Rattle.views.specs.Histories.{members_of, Led, begun, Sound, Defines};
 
 use crate::view::{View, turned};
 use boards::Set;
 use codes::Refusal;
 
-// The most views that a row can define.
-const MOST: u8 = 64;
+// The last view that a row can define.
+pub const LAST: u8 = 64;
 
+// The changes stand in an array with their number beside it, since the library allocates nothing: a row has room for all its views.
 #[derive(Clone, Copy)]
 pub struct History {
     pub first: Set,
-    pub changes: [u8; 64],
+    pub changes: [u8; LAST as usize],
     pub latest: u8,
 }
 
 #[derive(Clone, Copy)]
 pub struct Views {
     pub history: History,
-    ghost counted: { Counted history },
-    ghost boards: { ByBoards history },
-    ghost peopled: { Peopled history },
-}
-
-impl History {
-    // View 1 alone.
-    fn begin(first: Set) -> History
-        requires { 1 ≤ size first.bits }
-        ensures is { result ≡ begun first }
-        ensures sound { Sound result }
-    {
-        History {
-            first,
-            changes: [0; 64],
-            latest: 1,
-        }
-    }
-
-    // One view more, by a change that is open.
-    fn grow(&mut self, c: u8)
-        requires { (Sound self.old) × (Open self.old c) }
-        ensures is { self.new ≡ grown self.old c }
-        ensures sound { Sound self.new }
-    {
-        self.changes[self.latest as usize] = c;
-        self.latest += 1;
-    }
-
-    // The members of view 1.
-    fn start(&self) -> Set
-        requires { Sound self.now }
-        ensures { result.bits ≡ members_of self.now 1 }
-    {
-        self.first
-    }
-
-    // The members of the view after v, from those of v.
-    fn next(&self, v: u8, members: Set) -> Set
-        requires { (Sound self.now) × ((1 ≤ v) × ((v < self.now.latest) × (members.bits ≡ members_of self.now v))) }
-        ensures { result.bits ≡ members_of self.now (v + 1) }
-    {
-        turned(members, self.changes[v as usize])
-    }
+    ghost sound: { Sound history },
 }
 
 impl Views {
     // The views of a row that has defined view 1.
+    #[tactic(auto, using(crate::proofs::Histories::begun_sound), unfolding(crate::specs::Histories::begun))]
     pub fn new(first: View) -> Views
         ensures { result.history ≡ begun first.set }
     {
         Views {
-            history: History::begin(first.set()),
+            history: History {
+                first: first.set(),
+                changes: [0; LAST as usize],
+                latest: 1,
+            },
         }
     }
 
@@ -86,7 +48,8 @@ impl Views {
         self.history.latest
     }
 
-    // The members of the v-th view, found from the view before it; no boards unless v is 1 to the latest.
+    // The members of the v-th view; no boards unless v is 1 to the latest.
+    // It calls itself for the view before: by the rules of the project a view is told by the one before it and their change.
     pub fn members(&self, v: u8) -> Set
         ensures { result.bits ≡ members_of self.now.history v }
     {
@@ -94,9 +57,9 @@ impl Views {
             return Set::EMPTY;
         }
         if v == 1 {
-            return self.history.start();
+            return self.history.first;
         }
-        self.history.next(v - 1, self.members(v - 1))
+        turned(self.members(v - 1), self.history.changes[v as usize - 1])
     }
 
     // The latest view.
@@ -118,14 +81,17 @@ impl Views {
 
     // Defines the next view by change c.
     // BOARD for a number above 7; CHANGE at view 64, or if c is the only member. A refusal changes nothing.
+    #[tactic(auto, using(crate::proofs::Histories::grown_sound, crate::proofs::Histories::opens), unfolding(crate::specs::Histories::grown))]
     pub fn define(&mut self, c: u8) -> Result<(), Refusal>
         ensures { Defines self.old.history c result self.new.history }
     {
-        let _ = self.current().changed(c)?;
-        if self.latest() == MOST {
+        self.current().changed(c)?;
+        let latest = self.history.latest;
+        if latest == LAST {
             return Err(Refusal::Change);
         }
-        self.history.grow(c);
+        self.history.changes[latest as usize] = c;
+        self.history.latest = latest + 1;
         Ok(())
     }
 }

@@ -1,7 +1,6 @@
 // How many members of a view may be faulty, f, and how many make a quorum, Q: one table for 1 to 8 members.
 // Rule: docs/RULES.md, "Views, shares and ranks". It is shown once, on `table`, and all else cites it.
-ghost use Rattle.std.specs.Prelude.{◌≤◌};
-ghost use Rattle.views.specs.Shares.{Lawful, Shared};
+ghost use Rattle.views.specs.Shares.{Lawful};
 
 #[derive(Clone, Copy)]
 pub struct Share {
@@ -25,12 +24,4 @@ pub fn table() -> [Share; 8]
     ensures { Lawful result }
 {
     SHARES
-}
-
-// The shares of n members.
-pub(crate) fn shares_of(n: u8) -> Share
-    requires { (1 ≤ n) × (n ≤ 8) }
-    ensures { Shared n result }
-{
-    table()[n as usize - 1]
 }

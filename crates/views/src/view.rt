@@ -1,11 +1,11 @@
 // A view: a set of boards that is never empty, with its shares, its ranks, its manager and its next view.
 // Rule: docs/RULES.md, "Views, shares and ranks". Words of the contracts: specs/Groups.antt, specs/Shares.antt.
-ghost use Rattle.std.specs.Prelude.{◌≡◌, ◌<◌, ◌≤◌, true, MatchResult};
+ghost use Rattle.std.specs.Prelude.{◌≡◌, ◌+◌, ◌<◌, ◌≤◌, true, MatchResult};
 ghost use Rattle.boards.specs.Boards.{member, size, Rank, Holder};
 ghost use Rattle.views.specs.Groups.{toggle, Manager, NoView, NoChange};
-ghost use Rattle.views.specs.Shares.{Shared};
+ghost use Rattle.views.specs.Shares.{share, quorum, Shared};
 
-use crate::shares::{Share, shares_of};
+use crate::shares::{Share, table};
 use boards::Set;
 use codes::Refusal;
 
@@ -26,18 +26,22 @@ pub(crate) fn turned(set: Set, c: u8) -> Set
     }
 }
 
-impl View {
-    // The view of these boards, or BOARD if there are none.
-    pub fn new(set: Set) -> Result<View, Refusal>
-        ensures { MatchResult result (λ v. v.set ≡ set) (λ e. NoView set.bits e) }
-    {
+// The view of these boards, or BOARD if there are none.
+impl TryFrom<Set> for View {
+    type Error = Refusal;
+
+    ghost try_from_gives = { λ s r. MatchResult r (λ v. v.set ≡ s) (λ e. NoView s.bits e) };
+
+    fn try_from(set: Set) -> Result<View, Refusal> {
         if set.is_empty() {
             Err(Refusal::Board)
         } else {
             Ok(View { set })
         }
     }
+}
 
+impl View {
     // The view of a set that is known to have a board.
     pub(crate) fn of(set: Set) -> View
         requires { 1 ≤ size set.bits }
@@ -89,17 +93,28 @@ impl View {
         ensures is { Manager self.now.set.bits result }
         ensures below { result < 8 }
     {
-        match self.at(self.len()) {
-            Some(board) => board,
-            None => unreachable(),
-        }
+        self.at(self.len()).unwrap()
     }
 
     // How many members may be faulty, and how many make a quorum.
     pub fn shares(&self) -> Share
         ensures { Shared (size self.now.set.bits) result }
     {
-        shares_of(self.len())
+        table()[self.len() as usize - 1]
+    }
+
+    // How many members have a correct one among them: one more than may be faulty.
+    pub fn one_correct(&self) -> u8
+        ensures { result ≡ share (size self.now.set.bits) + 1 }
+    {
+        self.shares().f + 1
+    }
+
+    // How many members make a quorum.
+    pub fn quorum(&self) -> u8
+        ensures { result ≡ quorum (size self.now.set.bits) }
+    {
+        self.shares().q
     }
 
     // The next view by change c: c leaves if it is a member and joins if not.
@@ -110,11 +125,6 @@ impl View {
         if c > 7 {
             return Err(Refusal::Board);
         }
-        let next = turned(self.set, c);
-        if next.is_empty() {
-            Err(Refusal::Change)
-        } else {
-            Ok(View { set: next })
-        }
+        View::try_from(turned(self.set, c)).map_err(|_| Refusal::Change)
     }
 }

@@ -1,7 +1,8 @@
--- What every voter keeps, through a lower floor and a new proposal; and that it can tell what it keeps.
+-- What every voter keeps, with a new proposal; and that a row can tell what its voter keeps.
 -- Only this file opens `keeps`.
 use Rattle.std.proofs.Common.{◌≡◌, ℕ, ◌<◌, ◌≤◌, Bool, true, false, cond, not, eqb, List, Some, None, Option, sym, refl, ap, ◌∙◌, subst, ⊎_elim, arith}
 use Rattle.std.proofs.lemmas.Bool.{and_from, and_parts, both_ways, cases_lt, eq-eqb, le-leb, leb-true, lt-ltb, ltb-true, ne_eqb, not_from_false}
+use Rattle.schemes.specs.declared.Scheme.{Ghosts}
 use Rattle.boards.specs.Boards.{size}
 use Rattle.boards.proofs.Sets.{size_none}
 use Rattle.grammar.specs.Grammar.{from_to}
@@ -12,19 +13,18 @@ use Rattle.wire.proofs.Signs.{EntryAllowed}
 use Rattle.row.specs.declared.state.Count.{Count}
 use Rattle.row.specs.declared.state.Kept.{Kept}
 use Rattle.row.specs.declared.state.Voter.{Voter}
-use Rattle.row.specs.States.{kept_entry}
+use Rattle.row.specs.declared.row.Row.{Row}
+use Rattle.row.specs.States.{kept_entry, latest}
+use Rattle.row.specs.Effects.{told_proof}
 use Rattle.row.specs.Rows.{keeps, shown}
-use Rattle.sending.specs.Sends.{Speakable}
+use Rattle.sending.specs.Sends.{Able, Speakable}
 use Rattle.sending.proofs.Lones.{formed_last, within}
-use Rattle.voting.specs.Votes.{lowered, keeping, shown_by}
 
-pub lowered_keeps : (v : Voter) (n : ℕ) → keeps (lowered v n) ≡ keeps v
+-- A voter keeps a proposal that has a rank, a board's change and acks to show for it.
+pub keeps_proposal : (v : Voter) (floor k c : ℕ) (support : Count) → 1 ≤ k → k ≤ 8 → c < 8 → 1 ≤ size support.set.bits
+    → keeps (record { floor = floor; suspects = v.suspects; kept = Some (record { rank = k; change = c }); support = support }) ≡ true
 unfolding keeps
-lowered_keeps v n = refl
-
-pub keeping_keeps : (v : Voter) (floor k c : ℕ) (support : Count) → 1 ≤ k → k ≤ 8 → c < 8 → 1 ≤ size support.set.bits → keeps (keeping v floor k c support) ≡ true
-unfolding keeps
-keeping_keeps v floor k c support k1 k2 hc hs =
+keeps_proposal v floor k c support k1 k2 hc hs =
     and_from _ _ (and_from _ _ (le-leb 1 k k1) (le-leb k 8 k2)) (and_from _ _ (lt-ltb c 8 hc) (not_from_false _ (ne_eqb (size support.set.bits) 0 (λ e. omega (arith, e, hs)))))
 
 -- An entry and a proof that a last may have.
@@ -67,10 +67,18 @@ kept_told (Some k) p h byte =
       proof = subst (λ b. from_to (cond b 0 1) (cond b 0 255) (cond b 0 p) ≡ true) no (within 1 255 p some (omega arith));
     }
 
--- A row can tell what its voter keeps.
-pub can_tell : (b v k : ℕ) (w : Voter) (ts : List ℕ) (room : ℕ) (spent : Bool) → b < 8 → 1 ≤ v → v ≤ 64 → 1 ≤ k → k ≤ 8 → keeps w ≡ true → shown_by w < 256 → 128 ≤ room → spent ≡ false
-    → Speakable b (Act.last v k (kept_entry w.kept)) (shown_by w) (stored_tags (shown_by w) ts) room spent
+-- A row that is able can tell what its voter keeps.
+pub can_tell : {S : Type 0} (g : Ghosts S) (w : Row) (b v k p : ℕ) (e : Entry) (ts : List ℕ) (s : S) (out : List ℕ)
+    → b ≡ w.state.board → v ≡ latest w.state → e ≡ kept_entry w.state.voter.kept → p ≡ told_proof w.state → p < 256 → 1 ≤ k → k ≤ 8 → Able g s out
+    → Speakable g b (Act.last v k e) p (stored_tags p ts) s out
 unfolding keeps
-can_tell b v k w ts room spent hb v1 v2 k1 k2 hk byte hr hs =
-    let t = kept_told w.kept w.support.set.bits hk byte in
-    record { seated = hb; formed = λ x. formed_last v k b (kept_entry w.kept) (shown_by w) ts x v1 v2 k1 k2 hb t.entry t.byte t.proof; roomy = hr; unspent = hs }
+can_tell g w b v k p e ts s out hb hv he hp byte k1 k2 able =
+    let o = w.state.voter in
+    let seated : b < 8 = omega (arith, hb, w.seated) in
+    let t0 = kept_told o.kept o.support.set.bits w.keeps (subst (λ x. x < 256) hp byte) in
+    let t : Told e p = subst (λ x. Told x p) (sym he) (subst (Told (kept_entry o.kept)) (sym hp) t0) in
+    record {
+      seated = seated;
+      formed = λ x. formed_last v k b e p ts x (omega (arith, hv, w.sound.counted.2)) (omega (arith, hv, w.sound.counted.3)) k1 k2 seated t.entry t.byte t.proof;
+      able = able;
+    }

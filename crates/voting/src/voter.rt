@@ -1,55 +1,24 @@
-// What a vote leaves of the voter: a lower floor, and a proposal that is kept with the acks it came with.
-// Words of the contracts: specs/Votes.antt.
-ghost use Rattle.std.specs.Prelude.{◌≡◌, ◌<◌, ◌≤◌, true};
-ghost use Rattle.boards.specs.Boards.{size};
+// What a row tells of what its voter keeps, and the acks that a proposal came with.
+// Words of the contracts: specs/Votes.antt, and specs of crate row, Effects.antt.
+ghost use Rattle.std.specs.Prelude.{◌≡◌};
 ghost use Rattle.wire.specs.Messages.{meaning};
-ghost use Rattle.row.specs.Rows.{keeps};
 ghost use Rattle.row.specs.States.{kept_entry};
-ghost use Rattle.row.specs.Effects.{heard_tag};
-ghost use Rattle.voting.specs.Votes.{lowered, keeping, heard_count, shown_by, WholeTags};
+ghost use Rattle.row.specs.Effects.{heard_tag, told_proof};
+ghost use Rattle.voting.specs.Votes.{heard_count, WholeTags};
 
 use boards::Set;
-use row::state::{Count, Kept, Voter};
-use seats::set_of;
+use row::row::Row;
+use row::state::{Count, Kept};
 use signed::tag;
+use std::array;
 use wire::message::{Entry, Message};
-
-// The voter with a lower floor.
-pub(crate) fn lowered(voter: &Voter, floor: u8) -> Voter
-    ensures is { result ≡ lowered voter.now floor }
-    ensures keeps { keeps result ≡ keeps voter.now }
-{
-    Voter {
-        floor,
-        suspects: voter.suspects,
-        kept: voter.kept,
-        support: voter.support,
-    }
-}
-
-// The voter that keeps a proposal.
-pub(crate) fn keeping(voter: &Voter, floor: u8, rank: u8, change: u8, support: Count) -> Voter
-    requires { (1 ≤ rank) × ((rank ≤ 8) × ((change < 8) × (1 ≤ size support.set.bits))) }
-    ensures is { result ≡ keeping voter.now floor rank change support }
-    ensures keeps { keeps result ≡ true }
-{
-    Voter {
-        floor,
-        suspects: voter.suspects,
-        kept: Some(Kept { rank, change }),
-        support,
-    }
-}
 
 // The tag that a board of the set has in a message whose signers the set is; 0 for another board.
 fn heard_tag(m: &Message<'_>, set: Set, board: u8) -> u64
     requires { WholeTags (meaning m.now) set.bits }
     ensures { result ≡ heard_tag (meaning m.now) set.bits board }
 {
-    match tag(m, board) {
-        Some(number) => number,
-        None => 0,
-    }
+    tag(m, board).unwrap_or(0)
 }
 
 // The tags of the signers of a message, by board number.
@@ -59,43 +28,39 @@ pub(crate) fn heard_count(m: &Message<'_>, set: Set) -> Count
 {
     Count {
         set,
-        tags: [
-            heard_tag(m, set, 0),
-            heard_tag(m, set, 1),
-            heard_tag(m, set, 2),
-            heard_tag(m, set, 3),
-            heard_tag(m, set, 4),
-            heard_tag(m, set, 5),
-            heard_tag(m, set, 6),
-            heard_tag(m, set, 7),
-        ],
+        tags: array::from_fn(|board| heard_tag(m, set, board as u8)),
     }
 }
 
-// The entry that the voter tells.
-pub(crate) fn kept_entry(voter: &Voter) -> Entry
-    ensures { result ≡ kept_entry voter.now.kept }
+// The entry that a row tells: its kept proposal, or none.
+pub(crate) fn kept_entry(row: &Row) -> Entry
+    ensures { result ≡ kept_entry row.now.state.voter.kept }
 {
-    match voter.kept {
-        Some(Kept { rank, change }) => Entry {
+    let none = Entry {
+        earlier: 0,
+        change: 0,
+    };
+    row.state.voter.kept.map_or(
+        none,
+        |Kept { rank, change }| Entry {
             earlier: rank,
             change,
         },
-        None => Entry {
-            earlier: 0,
-            change: 0,
-        },
-    }
+    )
 }
 
-// The boards of the acks that it has to show for that.
-pub(crate) fn shown_by(voter: &Voter) -> Set
-    ensures is { result.bits ≡ shown_by voter.now }
-    ensures byte { result.bits < 256 }
+// The acks that it has to show for that.
+pub(crate) fn shown(row: &Row) -> Count
+    ensures set { result.set.bits ≡ told_proof row.now.state }
+    ensures tags { result.tags ≡ row.now.state.voter.support.tags }
 {
-    if kept_entry(voter).earlier == 0 {
-        Set::EMPTY
+    let support = row.state.voter.support;
+    if kept_entry(row).earlier == 0 {
+        Count {
+            set: Set::EMPTY,
+            ..support
+        }
     } else {
-        set_of(voter.support.set.bits)
+        support
     }
 }

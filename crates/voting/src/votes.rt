@@ -1,97 +1,49 @@
-// The four votes of a row, each for the rank that asked for it.
+// The votes of a row: an ack, a ready or a last for the rank that asked for it.
 // Rules: docs/RULES.md, "Changing the group". What each does: `heard` in the specs of crate row, Effects.antt.
-ghost use Rattle.std.specs.Prelude.{◌≡◌, ◌-◌, ◌*◌, ◌<◌, ◌≤◌, true, false, [], length};
-ghost use Rattle.boards.specs.Boards.{only, size};
+ghost use Rattle.std.specs.Prelude.{◌≡◌, ◌-◌, ◌*◌, ◌<◌, ◌≤◌, length};
+ghost use Rattle.boards.specs.Boards.{size};
 ghost use Rattle.wire.specs.Messages.{meaning};
-ghost use Rattle.wire.specs.Acts.{Act};
-ghost use Rattle.words.specs.Said.{said};
-ghost use Rattle.row.specs.Rows.{keeps};
-ghost use Rattle.row.specs.States.{group, latest, many, seat, with_voter, with_floor};
-ghost use Rattle.row.specs.Effects.{Effect, acks, readies, tells, called_for, heard};
+ghost use Rattle.row.specs.States.{with_floor};
+ghost use Rattle.row.specs.Effects.{acks, heard, keeping, readies, tells};
 ghost use Rattle.row.specs.Refusals.{answered};
-ghost use Rattle.sending.specs.Sends.{Did, HeardIf, Speakable};
-ghost use Rattle.voting.specs.Votes.{heard_count, keeping, Taken, WholeTags};
+ghost use Rattle.sending.specs.Sends.{Able, Did, HeardIf};
+ghost use Rattle.voting.specs.Votes.{Taken, WholeTags};
 
-use crate::voter::{heard_count, keeping, kept_entry, lowered, shown_by};
+use crate::voter::{heard_count, kept_entry, shown};
 use admission::judge;
 use boards::Set;
 use codes::Refusal;
 use refusals::kinds::answered;
 use row::row::Row;
-use row::state::{Sent, Voter};
+use row::state::{Kept, Sent, Voter};
 use schemes::Scheme;
 use seats::{called_for, seat};
 use sending::{say, speak};
 use signed::lowest_entry;
-use wire::message::{Entry, Message};
+use wire::message::Message;
 use words::statement::Statement;
 
-// An ack, a ready and a last in the latest view.
-fn ack(row: &Row, rank: u8, change: u8) -> Statement<'static>
-    ensures { said result ≡ Act.ack (latest row.now.state) rank change }
+// Row, scheme and bytes stay three parameters: of a struct of three `&mut` each contract would have to name what lies behind every field.
+
+// An ack for a change.
+#[tactic(auto, unfolding(row::specs::Rows::keeps))]
+fn ack<S: Scheme>(row: &mut Row, scheme: &mut S, rank: u8, change: u8, out: &mut [u8]) -> Sent
+    requires able { Able S.Scheme scheme.old out.old }
+    requires asked { (1 ≤ rank) × (rank ≤ 8) × (change < 8) }
+    ensures { Did S.Scheme (with_floor row.old.state (3 * rank - 1), acks row.old.state rank change) row.old.state scheme.old out.old result row.new.state scheme.new out.new }
 {
-    Statement::Ack {
+    let statement = Statement::Ack {
         view: row.latest(),
         rank,
         change,
-    }
-}
-
-fn ready(row: &Row, rank: u8, change: u8) -> Statement<'static>
-    ensures { said result ≡ Act.ready (latest row.now.state) rank change }
-{
-    Statement::Ready {
-        view: row.latest(),
-        rank,
-        change,
-    }
-}
-
-fn last(row: &Row, rank: u8, entry: Entry) -> Statement<'static>
-    ensures { said result ≡ Act.last (latest row.now.state) rank entry }
-{
-    Statement::Last {
-        view: row.latest(),
-        rank,
-        entry,
-    }
-}
-
-// Signs a statement for the member of a rank, and leaves the voter so.
-fn vote<S: Scheme>(
-    row: &mut Row,
-    scheme: &mut S,
-    voter: Voter,
-    rank: u8,
-    statement: Statement<'_>,
-    out: &mut [u8],
-) -> Sent
-    requires { (keeps voter ≡ true) × (voter.suspects ≡ row.old.state.voter.suspects) × Speakable row.old.state.board (said statement) 0 [] (length out.old) (S.spent scheme.old) }
-    ensures { Did S.Scheme (with_voter row.old.state voter, Effect.signs (only (seat (group row.old.state) rank)) (said statement.entry) 0 []) row.old.state scheme.old out.old result row.new.state scheme.new out.new }
-{
-    let to = seat(row, rank);
-    match say(scheme, row.board(), statement, to, out) {
-        Some(sent) => {
-            row.state.voter = voter;
-            sent
-        }
-        None => unreachable(),
-    }
-}
-
-// An ack of the last rank for the change that is suggested.
-fn suggest<S: Scheme>(row: &mut Row, scheme: &mut S, change: u8, out: &mut [u8]) -> Sent
-    requires { (change < 8) × (128 ≤ length out.old) × (S.spent scheme.old ≡ false) }
-    ensures { Did S.Scheme (with_floor row.old.state (3 * many row.old.state - 1), acks row.old.state (many row.old.state) change) row.old.state scheme.old out.old result row.new.state scheme.new out.new }
-{
-    let rank = row.view().len();
-    let voter = lowered(&row.state.voter, 3 * rank - 1);
-    let statement = ack(row, rank, change);
-    vote(row, scheme, voter, rank, statement, out)
+    };
+    let sent = say(scheme, row.board(), statement, seat(row, rank), out).unwrap();
+    row.state.voter.floor = 3 * rank - 1;
+    sent
 }
 
 // A ready for a proposal, which is kept with the acks it came with.
-fn proposal<S: Scheme>(
+fn ready<S: Scheme>(
     row: &mut Row,
     scheme: &mut S,
     m: &Message<'_>,
@@ -100,60 +52,43 @@ fn proposal<S: Scheme>(
     set: Set,
     out: &mut [u8],
 ) -> Sent
-    requires { WholeTags (meaning m.now) set.bits × (1 ≤ size set.bits) × (1 ≤ rank) × (rank ≤ 8) × (change < 8) × (128 ≤ length out.old) × (S.spent scheme.old ≡ false) }
-    ensures { Did S.Scheme (with_voter row.old.state (keeping row.old.state.voter (3 * rank - 2) rank change (heard_count (meaning m.now) set.bits)), readies row.old.state rank change) row.old.state scheme.old out.old result row.new.state scheme.new out.new }
+    requires able { Able S.Scheme scheme.old out.old }
+    requires asked { (1 ≤ rank) × (rank ≤ 8) × (change < 8) }
+    requires whole { WholeTags (meaning m.now) set.bits }
+    requires some { 1 ≤ size set.bits }
+    ensures { Did S.Scheme (keeping row.old.state rank change (meaning m.now) set.bits, readies row.old.state rank change) row.old.state scheme.old out.old result row.new.state scheme.new out.new }
 {
-    let voter = keeping(
-        &row.state.voter,
-        3 * rank - 2,
+    let statement = Statement::Ready {
+        view: row.latest(),
         rank,
         change,
-        heard_count(m, set),
-    );
-    let statement = ready(row, rank, change);
-    vote(row, scheme, voter, rank, statement, out)
+    };
+    let sent = say(scheme, row.board(), statement, seat(row, rank), out).unwrap();
+    row.state.voter = Voter {
+        floor: 3 * rank - 2,
+        kept: Some(Kept { rank, change }),
+        support: heard_count(m, set),
+        ..row.state.voter
+    };
+    sent
 }
 
 // A last that tells the kept proposal, with its acks as proof, or none.
-fn query<S: Scheme>(row: &mut Row, scheme: &mut S, rank: u8, out: &mut [u8]) -> Sent
-    requires { (1 ≤ rank) × (rank ≤ 8) × (128 ≤ length out.old) × (S.spent scheme.old ≡ false) }
+#[tactic(auto, unfolding(row::specs::Rows::keeps))]
+fn last<S: Scheme>(row: &mut Row, scheme: &mut S, rank: u8, out: &mut [u8]) -> Sent
+    requires able { Able S.Scheme scheme.old out.old }
+    requires asked { (1 ≤ rank) × (rank ≤ 8) }
     ensures { Did S.Scheme (with_floor row.old.state (3 * rank), tells row.old.state rank) row.old.state scheme.old out.old result row.new.state scheme.new out.new }
 {
-    let voter = row.state.voter;
-    let statement = last(row, rank, kept_entry(&voter));
-    let to = seat(row, rank);
-    match speak(
-        scheme,
-        row.board(),
-        statement,
-        shown_by(&voter),
-        &voter.support.tags,
-        to,
-        out,
-    ) {
-        Some(sent) => {
-            row.state.voter = lowered(&voter, 3 * rank);
-            sent
-        }
-        None => unreachable(),
-    }
-}
-
-// An ack for the change that the lowest earlier rank calls for.
-fn suggest_last<S: Scheme>(
-    row: &mut Row,
-    scheme: &mut S,
-    rank: u8,
-    low: Entry,
-    out: &mut [u8],
-) -> Sent
-    requires { (1 ≤ rank) × (rank ≤ 8) × (low.change < 8) × (128 ≤ length out.old) × (S.spent scheme.old ≡ false) }
-    ensures { Did S.Scheme (with_floor row.old.state (3 * rank - 1), acks row.old.state rank (called_for row.old.state low)) row.old.state scheme.old out.old result row.new.state scheme.new out.new }
-{
-    let change = called_for(row, low);
-    let voter = lowered(&row.state.voter, 3 * rank - 1);
-    let statement = ack(row, rank, change);
-    vote(row, scheme, voter, rank, statement, out)
+    let statement: Statement<'static> = Statement::Last {
+        view: row.latest(),
+        rank,
+        entry: kept_entry(row),
+    };
+    let proof = shown(row);
+    let sent = speak(scheme, row.board(), statement, &proof, seat(row, rank), out).unwrap();
+    row.state.voter.floor = 3 * rank;
+    sent
 }
 
 // What the row does with a message that it takes.
@@ -162,15 +97,18 @@ fn accepted<S: Scheme>(row: &mut Row, scheme: &mut S, m: &Message<'_>, out: &mut
     ensures { Did S.Scheme (heard row.old.state (meaning m.now)) row.old.state scheme.old out.old result row.new.state scheme.new out.new }
 {
     match *m {
-        Message::Suggest { change, .. } => suggest(row, scheme, change, out),
+        Message::Suggest { change, .. } => ack(row, scheme, row.view().len(), change, out),
         Message::Proposal {
             rank,
             change,
             set,
             ..
-        } => proposal(row, scheme, m, rank, change, set, out),
-        Message::Query { rank, .. } => query(row, scheme, rank, out),
-        Message::SuggestLast { rank, .. } => suggest_last(row, scheme, rank, lowest_entry(m), out),
+        } => ready(row, scheme, m, rank, change, set, out),
+        Message::Query { rank, .. } => last(row, scheme, rank, out),
+        Message::SuggestLast { rank, .. } => {
+            let change = called_for(row, lowest_entry(m));
+            ack(row, scheme, rank, change, out)
+        }
         _ => unreachable(),
     }
 }
@@ -187,8 +125,9 @@ pub fn hear<S: Scheme>(
     if !answered(m) {
         return None;
     }
-    match judge(row, scheme, m, out.len())? {
-        Some(e) => Some(Err(e)),
-        None => Some(Ok(accepted(row, scheme, m, out))),
-    }
+    // Not `Result::map`: what a closure that it does not call leaves of its captures is not known.
+    Some(match judge(row, scheme, m, out.len())? {
+        Ok(()) => Ok(accepted(row, scheme, m, out)),
+        Err(e) => Err(e),
+    })
 }

@@ -1,19 +1,18 @@
 -- The board of a rank is the one that holds it; past the ranks there is none.
 -- From the laws of `seat`.
-use mathlib.Core.Path.{sym, ap, ◌∙◌}
-use native.Mathlib.Omega.{arith}
-use Rattle.boards.specs.Boards.{only}
+use Rattle.std.proofs.Common.{◌≡◌, ℕ, Option, Some, None, MatchOption, sym, ap, ◌∙◌, arith, rules}
+use Rattle.boards.specs.declared.Set.{Set}
+use Rattle.boards.specs.Boards.{only, Holder}
 use Rattle.boards.proofs.Members.{only_above}
-use Rattle.row.specs.States.{seat}
+use Rattle.row.specs.States.{seat, the_set}
 use Rattle.row.proofs.Picked.{seat_is, seat_none}
 use Rattle.seats.proofs.seat.Goals as goal
 
-pub returns-in-Some : goal.returns-in-Some
-returns-in-Some c =
-    let v = c.view.result.set.bits in
-    c.only.ensures ∙ ap only (sym (seat_is v c.args.rank c.in-Some.board c.in-Some.ensures)) ∙ ap (λ w. only (seat w c.args.rank)) c.view.ensures
+seat_only : (v k : ℕ) (o : Option ℕ) (r : Set) (Q : ℕ → Type 0) → Holder v k o → ((b : ℕ) → Q b → r.bits ≡ only b) → MatchOption o (r ≡ the_set 0) Q → r.bits ≡ only (seat v k)
+seat_only v k None r Q h one e = ap (λ (x : Set). x.bits) e ∙ sym (ap only (seat_none v k h) ∙ only_above 8 (omega arith))
+seat_only v k (Some b) r Q h one e = one b e ∙ ap only (sym (seat_is v k b h))
 
-pub returns-in-None : goal.returns-in-None
-returns-in-None c =
-    let v = c.view.result.set.bits in
-    sym (ap only (seat_none v c.args.rank c.in-None.ensures) ∙ only_above 8 (omega arith)) ∙ ap (λ w. only (seat w c.args.rank)) c.view.ensures
+pub returns : goal.returns
+returns c =
+    seat_only c.view.result.set.bits c.args.rank c.at.result c.map_or.result _ c.at.ensures (λ b q. search rules) c.map_or.ensures
+    ∙ ap (λ w. only (seat w c.args.rank)) c.view.ensures

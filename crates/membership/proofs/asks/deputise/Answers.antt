@@ -1,20 +1,16 @@
 -- A deputy message can be sent: a member has a rank from 1 to 8.
 -- From the laws of lone messages.
-use Rattle.std.proofs.Common.{[], length, sym, subst, arith}
+use Rattle.std.proofs.Common.{subst, arith}
+use Rattle.boards.specs.Boards.{Rank}
 use Rattle.boards.proofs.Sets.{place_below, size_le}
-use Rattle.sending.specs.Sends.{Speakable}
-use Rattle.sending.proofs.Lones.{can_deputy}
+use Rattle.sending.proofs.Lones.{can_deputy, goes_out}
 use Rattle.membership.proofs.asks.deputise.Goals as goal
 
-pub unreachable-requires : goal.unreachable-requires
-unreachable-requires g c =
-    let w = c.args.row.now in
-    let b = c.board.result in
+pub unwrap-requires : goal.unwrap-requires
+unwrap-requires g c =
+    let k = c.unwrap-rank.result in
     let v = c.view.result.set.bits in
-    let room = length c.args.out.now in
-    let sp = g.S.Scheme.spent c.args.scheme.now in
-    let r = c.in-Some.ensures in
-    let p = place_below v c.args.board r.0 in
-    c.in-None-say.ensures.0
-    (subst (λ a. Speakable b a 0 [] room sp) (sym c.deputy.ensures)
-    (can_deputy b w.state.views.latest c.in-Some.rank room sp c.board.ensures.below w.counted.2 w.counted.3 (omega (arith, r.1)) (omega (arith, r.1, p, size_le v)) c.requires.1 c.requires.2))
+    let r = subst (Rank v c.args.board) c.unwrap-rank.ensures c.rank.ensures in
+    goes_out g.S.Scheme _ _ _ _ _ _ _ c.say.result _ _
+    (can_deputy g.S.Scheme c.args.row.now _ _ k _ _ c.board.ensures.is c.latest.ensures (omega (arith, r.1)) (omega (arith, r.1, place_below v c.args.board r.0, size_le v)) c.requires.able)
+    c.say.ensures

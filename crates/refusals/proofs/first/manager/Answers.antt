@@ -1,9 +1,0 @@
--- The member of the last rank is the highest member.
--- From the law of `manager_in`.
-use Rattle.row.specs.States.{manager_in}
-use mathlib.Core.Path.{sym, ap, ◌∙◌}
-use Rattle.row.proofs.Picked.{manager_is}
-use Rattle.refusals.proofs.first.manager.Goals as goal
-
-pub returns : goal.returns
-returns c = sym (manager_is c.view.result.set.bits c.manager.result c.manager.ensures.is) ∙ ap manager_in c.view.ensures
