@@ -13,7 +13,7 @@ use row::state::{Count, Leader, Sent, Slot, Stand};
 use sending::post;
 use signed::tag;
 use views::view::View;
-use wire::message::{Message, Tags};
+use wire::message::{Message, Tagged, Tags};
 
 // A lone message that is counted, but for its speaker and tag.
 #[derive(Clone, Copy)]
@@ -73,35 +73,25 @@ impl Tally {
     fn certificate(self, view: u8, count: &Count) -> Message<'_>
         ensures { meaning result ≡ certificate self view count.now }
     {
-        let set = count.set;
-        let tags = Tags::Stored(&count.tags);
+        let by = Tagged {
+            set: count.set,
+            tags: Tags::Stored(&count.tags),
+        };
         match self {
-            Tally::Notify { change } => Message::Suggest {
-                view,
-                change,
-                set,
-                tags,
-            },
+            Tally::Notify { change } => Message::Suggest { view, change, by },
             Tally::Ack { rank, change } => Message::Proposal {
                 view,
                 rank,
                 change,
-                set,
-                tags,
+                by,
             },
             Tally::Ready { rank, change } => Message::Change {
                 view,
                 rank,
                 change,
-                set,
-                tags,
+                by,
             },
-            Tally::Deputy { rank } => Message::Query {
-                view,
-                rank,
-                set,
-                tags,
-            },
+            Tally::Deputy { rank } => Message::Query { view, rank, by },
         }
     }
 }

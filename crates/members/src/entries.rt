@@ -30,10 +30,7 @@ fn entry_of(statement: Statement<'_>) -> Entry
 {
     match statement {
         Statement::Last { entry, .. } => entry,
-        _ => Entry {
-            earlier: 0,
-            change: 0,
-        },
+        _ => Entry::NONE,
     }
 }
 

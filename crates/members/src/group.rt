@@ -31,9 +31,9 @@ pub fn stranger(row: &Row, m: &Message<'_>) -> bool
             entry,
             proof,
             ..
-        } => { beyond || strays(proof, &view) || n <= rank || misplaced(rank, n, entry) }
+        } => { beyond || strays(proof.set, &view) || n <= rank || misplaced(rank, n, entry) }
         Message::SuggestLast { rank, proof, .. } => {
-            beyond || strays(proof, &view) || n <= rank || some_misplaced(m, rank, n)
+            beyond || strays(proof.set, &view) || n <= rank || some_misplaced(m, rank, n)
         }
         _ => false,
     }

@@ -21,11 +21,11 @@ pub fn misfit(row: &Row, m: &Message<'_>) -> bool
 {
     let quorum = row.view().quorum();
     match *m {
-        Message::Suggest { set, .. } | Message::Query { set, .. } => set.len()
+        Message::Suggest { by, .. } | Message::Query { by, .. } => by.set.len()
             != row.view().one_correct(),
-        Message::Proposal { set, .. } | Message::Change { set, .. } => set.len() != quorum,
-        Message::Last { proof, .. } => odd_proof(row, proof),
-        Message::SuggestLast { set, proof, .. } => set.len() != quorum || odd_proof(row, proof),
+        Message::Proposal { by, .. } | Message::Change { by, .. } => by.set.len() != quorum,
+        Message::Last { proof, .. } => odd_proof(row, proof.set),
+        Message::SuggestLast { replies, proof, .. } => replies.set.len() != quorum || odd_proof(row, proof.set),
         _ => false,
     }
 }

@@ -4,7 +4,7 @@ ghost use Rattle.std.specs.Prelude.{◌≡◌};
 ghost use Rattle.wire.specs.Messages.{meaning};
 ghost use Rattle.row.specs.Refusals.{hear_refusal, out_refusal, in_refusal, Unless};
 
-use crate::kinds::{answered, view_of};
+use crate::kinds::answered;
 use codes::Refusal;
 use members::entries::split;
 use members::group::{barred, stranger};
@@ -30,7 +30,7 @@ pub fn may_hear(
 {
     if room < LEAST {
         Err(Refusal::Out)
-    } else if view_of(m) != row.latest() {
+    } else if m.view() != row.latest() {
         Err(Refusal::View)
     } else if stranger(row, m) {
         Err(Refusal::Member)

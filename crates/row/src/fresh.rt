@@ -10,11 +10,6 @@ use boards::Set;
 use views::view::View;
 use wire::message::Entry;
 
-const NO_ENTRY: Entry = Entry {
-    earlier: 0,
-    change: 0,
-};
-
 // The floor is three times the members, nobody is suspect and nothing is kept.
 #[tactic(auto, using(boards::proofs::Members::member_none), unfolding(crate::specs::Rows::keeps))]
 pub(crate) fn voter(view: &View) -> Voter
@@ -40,8 +35,8 @@ pub(crate) fn leader() -> Leader
     Leader {
         stand: Stand::Idle,
         counts: [Count::NONE; 12],
-        entries: [NO_ENTRY; 8],
-        lowest: NO_ENTRY,
+        entries: [Entry::NONE; 8],
+        lowest: Entry::NONE,
         proof: Count::NONE,
     }
 }

@@ -14,7 +14,7 @@ use boards::Set;
 use layout::lay::lay_out;
 use row::state::{Count, Sent};
 use schemes::Scheme;
-use wire::message::{Message, Tags};
+use wire::message::{Message, Tagged, Tags};
 use words::statement::Statement;
 use writer::write;
 
@@ -76,8 +76,10 @@ fn lone<'a>(statement: &Statement<'a>, board: u8, shown: &'a Count, tag: u64) ->
             speaker: board,
             entry,
             tag,
-            proof: shown.set,
-            acks: Tags::Stored(&shown.tags),
+            proof: Tagged {
+                set: shown.set,
+                tags: Tags::Stored(&shown.tags),
+            },
         },
         Statement::Init { view, content } => Message::Init { view, content, tag },
         Statement::Echo { view, content } => Message::Echo {

@@ -36,12 +36,8 @@ pub(crate) fn heard_count(m: &Message<'_>, set: Set) -> Count
 pub(crate) fn kept_entry(row: &Row) -> Entry
     ensures { result ≡ kept_entry row.now.state.voter.kept }
 {
-    let none = Entry {
-        earlier: 0,
-        change: 0,
-    };
     row.state.voter.kept.map_or(
-        none,
+        Entry::NONE,
         |Kept { rank, change }| Entry {
             earlier: rank,
             change,

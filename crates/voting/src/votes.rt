@@ -101,9 +101,9 @@ fn accepted<S: Scheme>(row: &mut Row, scheme: &mut S, m: &Message<'_>, out: &mut
         Message::Proposal {
             rank,
             change,
-            set,
+            by,
             ..
-        } => ready(row, scheme, m, rank, change, set, out),
+        } => ready(row, scheme, m, rank, change, by.set, out),
         Message::Query { rank, .. } => last(row, scheme, rank, out),
         Message::SuggestLast { rank, .. } => {
             let change = called_for(row, lowest_entry(m));
