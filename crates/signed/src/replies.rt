@@ -63,14 +63,12 @@ fn lowest_heard(bytes: &[u8]) -> Entry
 fn lowest_stored(set: Set, entries: &[Entry; 8]) -> Entry
     ensures { (ts : List ℕ) → result ≡ lowest (stored_replies set.bits entries.now ts) }
 {
-    // In a chain the bound of the index would have to be shown once more, by a closure that knows nothing of the filter before it.
-    let mut found = Entry::NONE;
-    for board in (0..8u8).rev() {
-        if set.has(board) {
-            found = lower(entries[board as usize], found);
-        }
-    }
-    found
+    (0..8u8)
+        .rev()
+        .filter(|board| set.has(*board))
+        .fold(Entry::NONE, |found, board| {
+            lower(entries[usize::from(board)], found)
+        })
 }
 
 // The entry of the lowest earlier rank among the replies of a set.

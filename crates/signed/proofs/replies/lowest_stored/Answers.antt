@@ -1,20 +1,20 @@
--- All boards are left at first; each turn moves the last into what is found if it is in the set; at the end none is left.
+-- The boards from the last to the first, each one of the set put before what is found behind it.
 -- The tags beside the entries do not matter.
-use Rattle.std.proofs.Common.{sym, ◌∙◌}
-use Rattle.std.proofs.lemmas.Bool.{cond-true, cond-false}
-use Rattle.signed.proofs.Lowest.{lowest_onto, board_turn, no_board_left}
+use Rattle.std.proofs.Common.{fold, get_or, ap, ◌∙◌, rules, tests}
+use Rattle.std.proofs.lemmas.Iterator.Consumers.{fold_from_yields_List, YieldsList-from_filter, YieldsList-at}
+use Rattle.std.specs.List.{filter}
+use Rattle.boards.specs.Boards.{member}
+use Rattle.wire.specs.Messages.{none, tag_bytes}
+use Rattle.wire.specs.Acts.{lower}
+use Rattle.signed.proofs.Lowest.{boards_yield, down, lowest_listed}
 use Rattle.signed.proofs.replies.lowest_stored.Goals as goal
 
-pub loop-board-init : goal.loop-board-init
-loop-board-init c = λ ts. lowest_onto _
-
-pub loop-board-preserved-then-has : goal.loop-board-preserved-then-has
-loop-board-preserved-then-has c = λ ts.
-    board_turn _ _ c.loop-board.found c.lower-found.result _ _ c.loop-board-test.true (c.lower-found.ensures ∙ sym (cond-true _ _ _ (sym c.if-has.ensures.is))) (c.loop-board.invariant ts)
-
-pub loop-board-preserved : goal.loop-board-preserved
-loop-board-preserved c = λ ts.
-    board_turn _ _ c.loop-board.found c.loop-board.found _ _ c.loop-board-test.true (sym (cond-false _ _ _ (sym c.if-has.ensures.is))) (c.loop-board.invariant ts)
-
 pub returns : goal.returns
-returns c = λ ts. no_board_left _ _ c.loop-board.found _ _ c.loop-board-test.false (c.loop-board.invariant ts)
+returns c = λ ts.
+    let s = c.args.set.bits in
+    let es = c.args.entries.now in
+    let road = YieldsList-at c.filter.ensures.source (boards_yield c.rev.result (ap (λ r. r.start) c.rev.ensures.source)) in
+    fold_from_yields_List _ (λ f b. lower (get_or es b none) f) none c.fold.result c.fold.ensures.ran
+    (YieldsList-from_filter _ (member s) road c.filter.ensures.closure (λ x b q k. search (rules, tests)))
+    (λ a x b q k. search (rules, tests))
+    ∙ ap (λ r. fold (λ f b. lower (get_or es b none) f) none (filter (member s) (down r.end))) c.rev.ensures.source ∙ lowest_listed (member s) (λ b. record { entry = get_or es b none; tag = tag_bytes (get_or ts b 0) }) 8
