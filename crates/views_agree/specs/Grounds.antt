@@ -3,7 +3,6 @@
 use Rattle.std.specs.Prelude.{◌≡◌, ℕ, false, List}
 use Rattle.schemes.specs.declared.Scheme.{Ghosts}
 use Rattle.schemes.specs.Meaning.{signable, Signed as SignedGood}
-use Rattle.schemes.specs.Bounds.{signable_says}
 use Rattle.row.specs.declared.state.State.{State}
 use Rattle.views_agree.specs.Agreement.{Step, Started, Promised, Leads, Signs, Vouched, Bounded, Defines}
 
@@ -15,7 +14,7 @@ SignedWasHanded {S} g =
 
 -- A scheme to which every tag is good for what can be signed, and which is never spent: the theorem asks nothing more of one.
 abbrev pub trusting : Ghosts (Unit {0})
-trusting = record { good = λ s b w t. signable b w; spent = λ s. false; bounded = λ s b w t h. signable_says b w h }
+trusting = record { good = λ s b w t. signable b w; spent = λ s. false }
 
 -- A history with no faulty board in which board 0 defines the set of board 0 as its first view and that of boards 0 and 1 as its second.
 pub record SomeChange : Type 0 where
