@@ -1,3 +1,3 @@
 -- The words of voting.
--- Votes: what a vote leaves of the voter.
+-- Votes: what holds of a message that a row answers, and the tags that it keeps of one.
 pub mod Votes
