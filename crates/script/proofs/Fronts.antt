@@ -1,8 +1,8 @@
 -- The front of bytes that passes a test, byte by byte.
 -- For the loop that finds where it ends.
-use Rattle.std.proofs.Common.{◌≡◌, ℕ, suc, ◌+◌, ◌<◌, ◌≤◌, Bool, true, false, cond, List, [], ◌∷◌, length, get_or, drop, sym, ap, ◌∙◌, add-one, arith, drop-cons}
+use Rattle.std.proofs.Common.{◌≡◌, ℕ, suc, ◌+◌, ◌<◌, ◌≤◌, Bool, true, false, cond, not, List, [], ◌∷◌, length, get_or, drop, sym, refl, ap, ◌∙◌, add-one, arith, drop-cons}
 use Rattle.std.proofs.lemmas.List.{drop_all}
-use Rattle.script.specs.Words.{lead}
+use Rattle.script.specs.Words.{lead, Whole}
 
 module _ (P : ℕ → Bool) where
   -- one byte more that passes
@@ -33,3 +33,18 @@ module _ (P : ℕ → Bool) where
   lead_bound (b ∷ bs) =
       let ih = lead_bound bs in
       elim (P b) as (λ v. cond v (suc (lead P bs)) 0 ≤ suc (length bs)) [ true ↦ omega arith | false ↦ omega arith ]
+
+  twice : (b : ℕ) → not (not (P b)) ≡ P b
+  twice b = elim (P b) as (λ v. not (not v) ≡ v) [ true ↦ refl | false ↦ refl ]
+
+  pub lead_twice : (bs : List ℕ) → lead (λ b. not (not (P b))) bs ≡ lead P bs
+  unfolding lead
+  lead_twice [] = refl
+  lead_twice (b ∷ bs) = λ i. cond (twice b i) (suc (lead_twice bs i)) 0
+
+  -- a search that finds no byte that fails, and one that does
+  pub whole : {n : ℕ} (bs : List ℕ) → n ≡ lead (λ b. not (not (P b))) bs → length bs ≤ n → n ≤ length bs → Whole P bs
+  whole bs e above within = omega (arith, e, lead_twice bs, above, within)
+
+  pub not_whole : {n : ℕ} (bs : List ℕ) → n ≡ lead (λ b. not (not (P b))) bs → n < length bs → Whole P bs → ⊥
+  not_whole bs e below all = omega (arith, e, lead_twice bs, below, all)
