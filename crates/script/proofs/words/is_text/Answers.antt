@@ -1,6 +1,6 @@
 -- All are text where the front is all of them.
 -- The laws are in Fronts.
-use Rattle.std.proofs.Common.{not, sym, ◌∙◌, rules}
+use Rattle.std.proofs.Common.{not, ◌∙◌, rules}
 use Rattle.script.specs.Words.{plain}
 use Rattle.script.proofs.Fronts.{lead_twice}
 use Rattle.script.proofs.words.is_text.Goals as goal

@@ -1,6 +1,6 @@
 -- The next word: past the blanks, up to the next.
 -- The laws are in Wording.
-use Rattle.std.proofs.Common.{◌≡◌, ◌-◌, not, length, drop, arith, length-drop, rules}
+use Rattle.std.proofs.Common.{◌-◌, not, length, drop, arith, length-drop, rules}
 use Rattle.std.proofs.lemmas.List.{take_all}
 use Rattle.script.specs.Words.{blank}
 use Rattle.script.proofs.Wording.{found_none, found}
