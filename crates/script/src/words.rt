@@ -23,12 +23,7 @@ pub(crate) fn front<F: Fn(u8) -> bool>(bytes: &[u8], ends: F) -> usize
     ensures is { (test : ℕ → Bool) → ((b : ℕ) (r : Bool) → F.post ends b r → r ≡ test b) → result ≡ lead (λ b. not (test b)) bytes.now }
     ensures within { result ≤ length bytes.now }
 {
-    for (i, b) in bytes.iter().enumerate() {
-        if ends(*b) {
-            return i;
-        }
-    }
-    bytes.len()
+    bytes.iter().position(|b| ends(*b)).unwrap_or(bytes.len())
 }
 
 // Whether all bytes are text.
