@@ -1,11 +1,11 @@
 -- Lists in the making: the items that an iterator has left, and the text so far.
 -- What comes of a list once all are written.
-use Rattle.std.proofs.Common.{◌≡◌, ℕ, ◌+◌, ◌≤◌, List, [], ◌∷◌, ◌++◌, length, Some, None, Ok, Err, Option, Result, IsErr, sym, refl, ap, ◌∙◌, subst, append_assoc, append-nil, arith, length-append}
+use Rattle.std.proofs.Common.{◌≡◌, ℕ, List, [], ◌∷◌, ◌++◌, length, Some, None, Ok, Err, Option, Result, IsErr, sym, refl, ap, ◌∙◌, subst, append_assoc, append-nil, arith, length-append}
 use Rattle.std.specs.Iterator.{AlwaysYields}
 use Rattle.std.specs.declared.alloc.AllocError.{AllocError}
 use Rattle.script.specs.Lines.{Line, Wrote}
 use Rattle.script.specs.Texts.{listing, commas}
-use Rattle.script.proofs.Chains.{Has, has_none, has_more, has_all, not_written, last}
+use Rattle.script.proofs.Chains.{Has, has_none, has_more, has_all, not_written}
 
 -- the text of all items but the first
 abbrev pub others : List (List ℕ) → List ℕ

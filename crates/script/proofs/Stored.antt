@@ -3,7 +3,7 @@
 use Rattle.std.proofs.Common.{◌≡◌, ℕ, zero, suc, ◌+◌, ◌*◌, ◌/◌, ◌≤◌, Bool, true, false, cond, List, [], ◌∷◌, ◌++◌, map, length, get_or, take, drop, sym, refl, ap, ◌∙◌, subst, append_assoc, append-nil, add-one, arith, length-append, length-drop}
 use Rattle.std.proofs.lemmas.List.{map-append, take_all, take-append-le, drop-append-le, drop_at}
 use Rattle.wire.specs.declared.message.Entry.{Entry}
-use Rattle.wire.specs.Messages.{Reply, listed, joined, tag_bytes, stored_tags, stored_replies, replies_in, reply_at, none}
+use Rattle.wire.specs.Messages.{listed, joined, tag_bytes, stored_tags, stored_replies, none}
 use Rattle.wire.specs.Acts.{tag_at}
 use Rattle.boards.specs.Boards.{member}
 use Rattle.script.specs.Texts.{hex, tags_in, tags_text, commas, entry_text, entries_text, replied_text}

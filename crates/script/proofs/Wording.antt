@@ -2,7 +2,7 @@
 -- For the call that finds the next word.
 use Rattle.std.proofs.Common.{◌≡◌, ℕ, suc, ◌<◌, true, false, cond, not, List, [], ◌∷◌, length, take, drop, sym, refl, ap, ◌∙◌, arith}
 use Rattle.std.proofs.lemmas.List.{length-take-le}
-use Rattle.script.specs.Words.{lead, blank, onto, pieces, kept, words, chomped}
+use Rattle.script.specs.Words.{lead, blank, onto, pieces, kept, words}
 use Rattle.script.proofs.Fronts.{lead_bound}
 
 -- how many blanks at the front, and how many bytes that are none
@@ -127,8 +127,3 @@ module _ (bs : List ℕ) {rest : List ℕ} {s e : ℕ} (start : s ≡ gap bs) (p
       let w_is : w ≡ take (run (drop (gap bs) bs)) (drop (gap bs) bs) = here ∙ (λ i. take (run_is i) (rest_is i)) in
       let t_is : t ≡ drop (run (drop (gap bs) bs)) (drop (gap bs) bs) = there ∙ (λ i. drop (run_is i) (rest_is i)) in
       skipped bs ∙ word_first (drop (gap bs) bs) (omega (arith, run_is, some)) ∙ sym (λ i. w_is i ∷ words (t_is i))
-
--- a line of no bytes has no carriage return
-pub unchomped : (bs : List ℕ) → length bs ≡ 0 → bs ≡ chomped bs
-unchomped [] h = refl
-unchomped (b ∷ bs) h = absurd (omega arith)

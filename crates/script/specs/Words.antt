@@ -2,8 +2,6 @@
 -- A number sign starts a comment; spaces and tabs stand between words; a carriage return at the end of a line is blank.
 use Rattle.std.specs.Prelude.{◌≡◌, ℕ, suc, ◌-◌, Bool, cond, not, ◌&&◌, ◌||◌, List, [], ◌∷◌, length, take, drop, Some, None, Option, ◌==◌, nat_le, nat_lt, slice_index}
 use Rattle.std.specs.Borrow.{Bor}
-use Rattle.script.specs.declared.words.Until.{Until}
-use Rattle.script.specs.declared.words.Until.TheVariants.{Mark, Blank, Solid, NotText, NotDigit}
 
 -- How many bytes at the front pass a test.
 unfoldable pub lead : (ℕ → Bool) → List ℕ → ℕ
@@ -25,14 +23,6 @@ plain b = blank b || (nat_lt 32 b && nat_lt b 127)
 -- A hexadecimal digit, in either case.
 abbrev pub hex_sign : ℕ → Bool
 hex_sign b = (nat_le 48 b && nat_le b 57) || ((nat_le 65 b && nat_le b 70) || (nat_le 97 b && nat_le b 102))
-
--- Where a front ends.
-abbrev pub ends_at : Until → ℕ → Bool
-ends_at (Mark m) b = b == m
-ends_at Blank b = blank b
-ends_at Solid b = not (blank b)
-ends_at NotText b = not (plain b)
-ends_at NotDigit b = not (hex_sign b)
 
 -- The bytes before the first mark; all of them if there is none.
 abbrev pub before : ℕ → List ℕ → List ℕ

@@ -24,7 +24,7 @@ pub enum Reason {
     NotEightKeys,
 }
 
-// What a line of the script is answered.
+// What a line of the script is answered. No Result: three kinds of answers are counted apart, and none of them is passed on by `?`.
 #[derive(Clone, Copy)]
 pub enum Answer<'a> {
     Heard(Message<'a>),

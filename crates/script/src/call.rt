@@ -4,18 +4,17 @@ ghost use Rattle.script.specs.Words.{body};
 ghost use Rattle.script.specs.Calls.{Named, OneWord, ArgumentRead, ArgumentKeys, Parses};
 
 use crate::answer::Reason;
-use crate::parts::first;
-use crate::words::{Until, body, front, next_word};
+use crate::words::{body, front, is_text, next_word};
 
 // A call: `read` has the hexadecimal digits of the bytes to read, `keys` those of the eight boards' keys.
-#[derive(Clone, Copy)]
+#[derive(Clone, Copy, PartialEq, Eq)]
 pub enum Call<'a> {
     Read(&'a [u8]),
     Keys(&'a [u8]),
 }
 
 // The names of calls.
-#[derive(Clone, Copy)]
+#[derive(Clone, Copy, PartialEq, Eq)]
 pub(crate) enum Verb {
     Read,
     Keys,
@@ -38,9 +37,7 @@ fn named(word: &[u8]) -> Option<Verb>
 fn one_word(text: &[u8]) -> Result<&[u8], Reason>
     ensures { OneWord text.now result }
 {
-    let Some((word, rest)) = next_word(text) else {
-        return Err(Reason::TooFewWords);
-    };
+    let (word, rest) = next_word(text).ok_or(Reason::TooFewWords)?;
     match next_word(rest) {
         None => Ok(word),
         Some(_) => Err(Reason::TooManyWords),
@@ -52,9 +49,9 @@ fn digits(word: &[u8]) -> Result<&[u8], Reason>
     ensures { ArgumentRead word.now result }
 {
     if word == b"-".as_slice() {
-        return Ok(first(word, 0));
+        return Ok(&word[..0]);
     }
-    if front(word, Until::NotDigit) < word.len() {
+    if front(word, |b| !b.is_ascii_hexdigit()) < word.len() {
         return Err(Reason::NotHexadecimal);
     }
     if word.len() % 2 == 1 {
@@ -79,12 +76,13 @@ fn key_digits(word: &[u8]) -> Result<&[u8], Reason>
 fn said(text: &[u8]) -> Result<Option<Call<'_>>, Reason>
     ensures { Parses text.now result }
 {
-    if front(text, Until::NotText) < text.len() {
+    if !is_text(text) {
         return Err(Reason::NotText);
     }
     let Some((name, rest)) = next_word(text) else {
         return Ok(None);
     };
+    // Not `ok_or`: its Err would have to be traced back to `None` by hand.
     let Some(verb) = named(name) else {
         return Err(Reason::UnknownCall);
     };

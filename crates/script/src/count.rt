@@ -32,6 +32,7 @@ impl Tally {
         if self.calls() == u64::MAX {
             return None;
         }
+        // Each field named: `..self` is refused for a struct with a ghost field.
         let Tally { ok, refused, wrong } = self;
         Some(match answer {
             Answer::Heard(_) | Answer::Audited(_, _) | Answer::Kept => Tally {

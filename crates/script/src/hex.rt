@@ -7,7 +7,7 @@ ghost use Rattle.script.specs.Hex.{nibble, read_hex, Undone};
 use crate::line::Text;
 use std::alloc::AllocError;
 
-// The number that a digit stands for.
+// The number that a digit stands for. Not `char::to_digit`: no plainer, with a char made and a none taken away.
 fn nibble(digit: u8) -> u8
     ensures { (result ≡ nibble digit) × (result < 16) }
 {

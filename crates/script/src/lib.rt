@@ -10,7 +10,6 @@ pub mod hex;
 mod line;
 mod lists;
 mod numbers;
-mod parts;
 mod shown;
 pub mod tally;
 pub mod words;

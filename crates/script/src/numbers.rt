@@ -7,7 +7,7 @@ ghost use Rattle.script.specs.Texts.{hex_digit, hex, payload_text};
 use crate::line::{Field, Text};
 use std::alloc::AllocError;
 
-// A number in decimal digits.
+// A number in decimal digits. Not `to_string`: it would take memory of its own.
 fn digits(line: &mut Vec<u8>, n: u64) -> Result<(), AllocError>
     ensures { Wrote line.old (decimal n) result line.new }
 {
@@ -35,7 +35,7 @@ impl Text for u8 {
     }
 }
 
-// The hexadecimal digit of a number below 16.
+// The hexadecimal digit of a number below 16. Not `char::from_digit`: its letters are small ones, and it answers a char.
 fn hex_digit(n: u8) -> u8
     requires { n < 16 }
     ensures { result ≡ hex_digit n }

@@ -136,7 +136,7 @@ impl Text for Replies<'_> {
     }
 }
 
-// The name of a sort.
+// The name of a sort, which `Display` of the wire would give with an Err of its own.
 fn name(sort: Sort) -> &'static str
     ensures { result.now ≡ sort_name sort }
 {

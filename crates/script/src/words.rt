@@ -1,62 +1,45 @@
 // The words of a line: comments cut off, words apart by spaces or tabs.
 // What they are: specs/Words.antt.
-ghost use Rattle.std.specs.Prelude.{◌≡◌, ◌≤◌, not, length};
-ghost use Rattle.script.specs.Words.{ends_at, lead, before, past, chomped, body, NextWord};
+ghost use Rattle.std.specs.Prelude.{◌≡◌, ◌≤◌, ℕ, Bool, not, length, Decides};
+ghost use Rattle.script.specs.Words.{lead, Whole, blank, plain, before, past, chomped, body, NextWord};
 
-use crate::parts::{after, first};
-
-// Where a front of bytes ends: at a mark, at a blank, at what is no blank, at what is no text, at what is no digit.
-#[derive(Clone, Copy)]
-pub(crate) enum Until {
-    Mark(u8),
-    Blank,
-    Solid,
-    NotText,
-    NotDigit,
+// A space or a tab.
+fn is_blank(b: u8) -> bool
+    ensures { result ≡ blank b }
+{
+    b == b' ' || b == b'\t'
 }
 
-impl Until {
-    // Whether the front ends at this byte.
-    fn ends(self, b: u8) -> bool
-        ensures { result ≡ ends_at self b }
-    {
-        match self {
-            Until::Mark(mark) => b == mark,
-            Until::Blank => b == b' ' || b == b'\t',
-            Until::Solid => !(b == b' ' || b == b'\t'),
-            Until::NotText => !(b == b' ' || b == b'\t' || (b > 32 && b < 127)),
-            Until::NotDigit => !((b >= b'0' && b <= b'9')
-                || (b >= b'A' && b <= b'F')
-                || (b >= b'a' && b <= b'f')),
-        }
-    }
+// A byte of text: a blank or a printable character.
+fn is_plain(b: u8) -> bool
+    ensures { result ≡ plain b }
+{
+    is_blank(b) || b.is_ascii_graphic()
 }
 
-// How many bytes stand before the end of the front.
-pub(crate) fn front(bytes: &[u8], until: Until) -> usize
-    ensures is { result ≡ lead (λ b. not (ends_at until b)) bytes.now }
+// How many bytes stand before the first at which a test says that they end.
+pub(crate) fn front<F: Fn(u8) -> bool>(bytes: &[u8], ends: F) -> usize
+    requires { F.IsAlwaysCallable ends }
+    ensures is { (test : ℕ → Bool) → ((b : ℕ) (r : Bool) → F.post ends b r → r ≡ test b) → result ≡ lead (λ b. not (test b)) bytes.now }
     ensures within { result ≤ length bytes.now }
 {
-    for (i, b) in bytes.iter().enumerate() {
-        if until.ends(*b) {
-            return i;
-        }
-    }
-    bytes.len()
+    bytes.iter().position(|b| ends(*b)).unwrap_or(bytes.len())
+}
+
+// Whether all bytes are text.
+pub(crate) fn is_text(bytes: &[u8]) -> bool
+    ensures { Decides result (Whole plain bytes.now) }
+{
+    front(bytes, |b| !is_plain(b)) == bytes.len()
 }
 
 // The line without a carriage return at its end.
 fn chomped(line: &[u8]) -> &[u8]
     ensures { result.now ≡ chomped line.now }
 {
-    let n = line.len();
-    if n == 0 {
-        return line;
-    }
-    if line[n - 1] == b'\r' {
-        first(line, n - 1)
-    } else {
-        line
+    match line.split_last() {
+        Some((b'\r', rest)) => rest,
+        _ => line,
     }
 }
 
@@ -65,25 +48,25 @@ pub(crate) fn body(line: &[u8]) -> &[u8]
     ensures { result.now ≡ body line.now }
 {
     let line = chomped(line);
-    first(line, front(line, Until::Mark(b'#')))
+    &line[..front(line, |b| b == b'#')]
 }
 
 // The first word and what comes after it.
 pub(crate) fn next_word(bytes: &[u8]) -> Option<(&[u8], &[u8])>
     ensures { NextWord bytes.now result }
 {
-    let rest = after(bytes, front(bytes, Until::Solid));
-    let end = front(rest, Until::Blank);
+    let rest = &bytes[front(bytes, |b| !is_blank(b))..];
+    let end = front(rest, is_blank);
     if end == 0 {
         return None;
     }
-    Some((first(rest, end), after(rest, end)))
+    Some(rest.split_at(end))
 }
 
 // The first line of a script and what comes after its newline.
 pub fn next_line(script: &[u8]) -> (&[u8], &[u8])
     ensures { (result.0.now ≡ before 10 script.now) × (result.1.now ≡ past 10 script.now) }
 {
-    let end = front(script, Until::Mark(b'\n'));
-    (first(script, end), after(after(script, end), 1))
+    let (line, rest) = script.split_at(front(script, |b| b == b'\n'));
+    (line, &rest[rest.len().min(1)..])
 }

@@ -1,6 +1,6 @@
 -- The bytes that digits stand for, one by one.
 -- The laws are in Undoing.
-use Rattle.std.proofs.Common.{ℕ, List, ap, ◌∙◌, arith}
+use Rattle.std.proofs.Common.{◌∙◌, arith}
 use Rattle.std.specs.Slice.Iter.{chunks_exact_rest}
 use Rattle.script.proofs.Undoing.{read_more, read_not, read_all}
 use Rattle.script.proofs.hex.unhex.Goals as goal

@@ -1,9 +1,9 @@
 -- The items of a list, one after another.
 -- The laws are in Chains and Listings.
-use Rattle.std.proofs.Common.{◌+◌, List, ◌++◌, length, Ok, refl, ap, arith, length-append}
+use Rattle.std.proofs.Common.{length, Ok, refl, ap, arith, length-append}
 use Rattle.script.specs.Texts.{commas}
 use Rattle.script.proofs.Chains.{has_none, has_one, not_written, last}
-use Rattle.script.proofs.Listings.{others, Opens, opens, dash, going_none, going_more, going_not, going_all}
+use Rattle.script.proofs.Listings.{others, opens, dash, going_none, going_more, going_not, going_all}
 use Rattle.script.proofs.lists.commas.Goals as goal
 
 pub returns-in_default : goal.returns-in_default

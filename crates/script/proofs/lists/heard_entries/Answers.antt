@@ -1,11 +1,11 @@
 -- The entries in bytes are the pieces of nine.
 -- The laws are in Sources.
-use Rattle.std.proofs.Common.{◌≡◌, ℕ, List, get_or, take, drop, map, length, ap, refl, ◌∙◌, add-zero, arith, rules}
+use Rattle.std.proofs.Common.{◌≡◌, ℕ, List, get_or, take, drop, map, ap, refl, ◌∙◌, add-zero, arith, rules}
 use Rattle.std.proofs.lemmas.List.{get_or-take, get_or-drop}
 use Rattle.std.proofs.lemmas.Iterator.{YieldsList-from_map_by}
 use Rattle.std.specs.Iterator.Adapters.{map_source}
 use Rattle.std.specs.Slice.Iter.{chunks_rest, chunks_size}
-use Rattle.wire.specs.Messages.{Reply, entry_in, reply_at, heard_replies}
+use Rattle.wire.specs.Messages.{entry_in, reply_at, heard_replies}
 use Rattle.script.specs.Texts.{commas, entry_text}
 use Rattle.script.proofs.Chains.{wrote_as}
 use Rattle.script.proofs.Sources.{nines, nines_more, pieces_run, replies_are}

@@ -1,12 +1,12 @@
 -- The tags in bytes are the pieces of eight.
 -- The laws are in Sources.
-use Rattle.std.proofs.Common.{ap, refl, ◌∙◌, map, length, rules}
+use Rattle.std.proofs.Common.{ap, refl, ◌∙◌, length, rules}
 use Rattle.std.proofs.lemmas.Iterator.{YieldsList-from_map_by}
 use Rattle.std.specs.Iterator.Adapters.{map_source}
 use Rattle.std.specs.Slice.Iter.{chunks_rest, chunks_size}
 use Rattle.script.specs.Texts.{hex, commas, tags_in}
 use Rattle.script.proofs.Chains.{wrote_as}
-use Rattle.script.proofs.Sources.{each, eights, eights_more, pieces_run, tags_are}
+use Rattle.script.proofs.Sources.{eights, eights_more, pieces_run, tags_are}
 use Rattle.script.proofs.lists.heard_tags.Goals as goal
 
 pub returns : goal.returns

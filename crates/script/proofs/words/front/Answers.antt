@@ -1,18 +1,15 @@
--- The front goes on byte by byte until one ends it.
--- The laws are in Fronts.
-use Rattle.std.proofs.Common.{not, sym, ap, zero-add, arith}
-use Rattle.script.specs.Words.{ends_at, lead}
-use Rattle.script.proofs.Fronts.{lead_more, lead_here, lead_all}
+-- The front ends at the first byte that passes the test.
+-- The laws are in Fronts and in the library.
+use Rattle.std.proofs.Common.{◌≡◌, true, false, sym, ◌∙◌, rules}
+use Rattle.std.proofs.lemmas.Iterator.{YieldsList-from_slice, IsFirst-from_position, index_from_first}
+use borrow.Author.Tests.{tests}
+use Rattle.script.proofs.Fronts.{before_first, first_none, first_hit, first_miss}
 use Rattle.script.proofs.words.front.Goals as goal
 
-pub loop-i-init : goal.loop-i-init
-loop-i-init c = zero-add (lead (λ b. not (ends_at c.args.until b)) c.args.bytes.now)
-
-pub loop-i-preserved : goal.loop-i-preserved
-loop-i-preserved c = lead_more (λ b. not (ends_at c.args.until b)) c.args.bytes.now c.loop-i.i (omega arith) (ap not (sym c.if-ends.ensures)) c.loop-i.invariant
-
-pub returns : goal.returns
-returns c = record { is = lead_all (λ b. not (ends_at c.args.until b)) c.args.bytes.now c.loop-i.i (omega arith) (omega arith) c.loop-i.invariant; within = omega arith }
-
-pub returns-then-ends : goal.returns-then-ends
-returns-then-ends c = record { is = lead_here (λ b. not (ends_at c.args.until b)) c.args.bytes.now c.loop-i.i (omega arith) (ap not (sym c.if-ends.ensures)) c.loop-i.invariant; within = omega arith }
+pub returns-clause-is : goal.returns-clause-is
+returns-clause-is g c = λ test h.
+    let bs = c.args.bytes.now in
+    c.unwrap_or.ensures
+    ∙ sym (index_from_first (before_first test) (λ b. true ≡ test b) (λ b. false ≡ test b) (first_none test) (first_hit test) (first_miss test) bs c.position.result
+    (IsFirst-from_position _ _ c.position.result (λ b. true ≡ test b) (λ b. false ≡ test b) c.position.ensures.ran (YieldsList-from_slice bs c.iter.ensures.rest)
+    (λ x q k. search (rules, tests, h)) (λ x q k. search (rules, tests, h))))

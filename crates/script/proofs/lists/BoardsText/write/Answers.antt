@@ -1,6 +1,6 @@
 -- The boards of a set are the numbers below 8 that are its members.
 -- The laws are in Sources.
-use Rattle.std.proofs.Common.{ap, ◌∙◌, decimal, rules}
+use Rattle.std.proofs.Common.{ap, decimal, rules}
 use borrow.Author.Tests.{tests}
 use Rattle.boards.specs.Boards.{member}
 use Rattle.std.specs.Iterator.Adapters.{filter_source}

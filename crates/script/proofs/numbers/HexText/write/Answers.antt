@@ -1,9 +1,9 @@
 -- The digits of bytes, two by two.
 -- The laws are in Chains.
-use Rattle.std.proofs.Common.{[], ◌∷◌, ◌++◌, length, take, sym, ap, ◌∙◌, arith, rules}
-use Rattle.std.proofs.lemmas.List.{length-take-le, take_all}
+use Rattle.std.proofs.Common.{[], ◌∷◌, ◌++◌, take, ◌∙◌, arith}
+use Rattle.std.proofs.lemmas.List.{length-take-le}
 use Rattle.script.specs.Texts.{hex}
-use Rattle.script.proofs.Chains.{Has, has_none, has_more, has_all, not_written, hex_none, hex_more, hex_length}
+use Rattle.script.proofs.Chains.{has_none, has_more, not_written, hex_none, hex_more, hex_length}
 use Rattle.script.proofs.numbers.HexText.write.Goals as goal
 
 pub loop-b-init : goal.loop-b-init

@@ -1,8 +1,0 @@
--- The front of bytes that are fewer is all of them.
--- The library's cut gives the rest.
-use Rattle.std.proofs.Common.{sym, arith}
-use Rattle.std.proofs.lemmas.List.{take_all}
-use Rattle.script.proofs.parts.first.Goals as goal
-
-pub returns-else-n-bytes : goal.returns-else-n-bytes
-returns-else-n-bytes c = sym (take_all c.args.n c.args.bytes.now (omega arith))
