@@ -18,7 +18,7 @@ ready-requires-clause-asked g c = (takes_proposal g.S.Scheme _ _ _ _ _ _ _ _ (ta
 pub ready-requires-clause-whole : goal.ready-requires-clause-whole
 ready-requires-clause-whole g c =
     let t = takes_proposal g.S.Scheme _ _ _ _ _ _ _ _ (taken_as g.S.Scheme _ _ _ _ _ c.in-Proposal.is c.requires) in
-    subst (λ x. WholeTags (meaning x) c.in-Proposal.set.bits) (sym c.in-Proposal.is) t.1
+    subst (λ x. WholeTags (meaning x) c.in-Proposal.by.set.bits) (sym c.in-Proposal.is) t.1
 
 pub ready-requires-clause-some : goal.ready-requires-clause-some
 ready-requires-clause-some g c = (takes_proposal g.S.Scheme _ _ _ _ _ _ _ _ (taken_as g.S.Scheme _ _ _ _ _ c.in-Proposal.is c.requires)).2
