@@ -1,7 +1,8 @@
 -- Head and middle together: nothing, a payload, a tag or replies after the head.
 -- Each middle spells its fields, and the message goes on after it.
-use Rattle.std.proofs.Common.{◌≡◌, ℕ, ◌+◌, ◌*◌, ◌%◌, ◌≤◌, List, [], ◌∷◌, ◌++◌, length, sym, refl, ap, subst, ◌∙◌, arith, length-append, Bor}
+use Rattle.std.proofs.Common.{◌≡◌, ℕ, ◌+◌, ◌*◌, ◌%◌, ◌≤◌, List, [], ◌∷◌, ◌++◌, length, sym, refl, ap, subst, ◌∙◌, arith, length-append, Bor, true, ◌&&◌, leb, eqb}
 use Rattle.std.specs.List.{AllByRecursion}
+use Rattle.std.proofs.lemmas.Bool.{and_parts, eqb-true, leb-true}
 use Rattle.std.proofs.lemmas.List.{append_assoc}
 use Rattle.std.proofs.ByRecursion.{All-append}
 use Rattle.boards.specs.Boards.{size, member, place}
@@ -32,12 +33,15 @@ use Rattle.layout.proofs.Packed.{bytes, head_bits}
 use Rattle.layout.proofs.Replies.{all_listed, listed_long, replies_listed, tag_long}
 
 -- A head of whole bytes, and a middle that a message goes on with.
-pub fronted : {h : Head} {is : List Item} {g k : Grammar} (m : Middle) (js : List Item) → Holds message h is k → wide is % 8 ≡ 0 → bits (middle_bytes m) ≡ spell js → Bytes (middle_bytes m) → length (middle_bytes m) ≤ 72 → After k js g → Fronts (record { head = h; middle = m }) (is ++ js) g
+pub fronted : {h : Head} {is : List Item} {g k : Grammar} (m : Middle) (js : List Item) → Holds message h is k → (leb 8 (wide is) && eqb (wide is % 8) 0) ≡ true → bits (middle_bytes m) ≡ spell js → Bytes (middle_bytes m) → length (middle_bytes m) ≤ 72 → After k js g → Fronts (record { head = h; middle = m }) (is ++ js) g
 fronted {h} {is} m js p w e f l a =
-    let whole : h.width % 8 ≡ 0 = ap (λ n. n % 8) (wide_as p) ∙ w in
+    let b = and_parts (leb 8 (wide is)) _ w in
+    let whole : h.width % 8 ≡ 0 = ap (λ n. n % 8) (wide_as p) ∙ eqb-true _ _ b.1 in
+    let some : 8 ≤ h.width = omega (arith, wide_as p, leb-true 8 (wide is) b.0) in
     record {
       form = bits_append _ (middle_bytes m) ∙ (λ i. (head_bits h whole ∙ p.form) i ++ e i) ∙ sym (spell_append is js);
       whole = whole;
+      some = some;
       fit = f;
       short = l;
       goes = onward p.goes a;
@@ -47,13 +51,13 @@ nothing : bits [] ≡ spell []
 unfolding bits spell
 nothing = refl
 
-pub plain : {h : Head} {is : List Item} {g : Grammar} → Holds message h is g → wide is % 8 ≡ 0 → Fronts (record { head = h; middle = Nothing }) (is ++ []) g
+pub plain : {h : Head} {is : List Item} {g : Grammar} → Holds message h is g → (leb 8 (wide is) && eqb (wide is % 8) 0) ≡ true → Fronts (record { head = h; middle = Nothing }) (is ++ []) g
 plain p w = fronted Nothing [] p w nothing tt (omega arith) After.start
 
-pub loaded : {h : Head} {is : List Item} {g : Grammar} (p : Bor (List ℕ)) → Holds message h is (Grammar.part (length p.now) (λ _. g)) → wide is % 8 ≡ 0 → Bytes p.now → length p.now ≤ 72 → Fronts (record { head = h; middle = Payload p }) (is ++ Item.raw p.now ∷ []) g
+pub loaded : {h : Head} {is : List Item} {g : Grammar} (p : Bor (List ℕ)) → Holds message h is (Grammar.part (length p.now) (λ _. g)) → (leb 8 (wide is) && eqb (wide is % 8) 0) ≡ true → Bytes p.now → length p.now ≤ 72 → Fronts (record { head = h; middle = Payload p }) (is ++ Item.raw p.now ∷ []) g
 loaded p o w f l = fronted (Payload p) (Item.raw p.now ∷ []) o w (bytes p.now) f l (After.then_raw refl f After.start)
 
-pub tagged : {h : Head} {is : List Item} {g : Grammar} (q : Tagged) → Holds message h is (Grammar.part 8 (λ _. g)) → wide is % 8 ≡ 0 → Bytes (tags_by q) → length (tags_by q) ≡ 8 → Fronts (record { head = h; middle = Tag q }) (is ++ Item.raw (tags_by q) ∷ []) g
+pub tagged : {h : Head} {is : List Item} {g : Grammar} (q : Tagged) → Holds message h is (Grammar.part 8 (λ _. g)) → (leb 8 (wide is) && eqb (wide is % 8) 0) ≡ true → Bytes (tags_by q) → length (tags_by q) ≡ 8 → Fronts (record { head = h; middle = Tag q }) (is ++ Item.raw (tags_by q) ∷ []) g
 tagged q o w f l = fronted (Tag q) (Item.raw (tags_by q) ∷ []) o w (bytes (tags_by q)) f (omega arith) (After.then_raw l f After.start)
 
 -- the bits of an entry's byte
@@ -94,7 +98,7 @@ listed_bytes s es e b =
 pub replies_even : (s : ℕ) (es : Entries) → Even s es → length (replies_bytes (replies_of s es)) ≡ 9 * size s
 replies_even s es e = ap (λ l. length (replies_bytes l)) (replies_listed s es e) ∙ listed_bytes s es e 8 ∙ ap (λ n. 9 * n) (place_last s)
 
-pub replied : {h : Head} {is : List Item} (k : ℕ → Grammar) (x : Gathered) (q : RepliesOf) → x.replies ≡ q → Holds message h is (entries (size q.set.bits) 0 k) → wide is % 8 ≡ 0 → Gathers q.set.bits q.entries x.top → Fronts (record { head = h; middle = Replies x }) (is ++ replies_values (replies_by q)) (k x.top)
+pub replied : {h : Head} {is : List Item} (k : ℕ → Grammar) (x : Gathered) (q : RepliesOf) → x.replies ≡ q → Holds message h is (entries (size q.set.bits) 0 k) → (leb 8 (wide is) && eqb (wide is % 8) 0) ≡ true → Gathers q.set.bits q.entries x.top → Fronts (record { head = h; middle = Replies x }) (is ++ replies_values (replies_by q)) (k x.top)
 replied k x q e o w g =
     let rs = replies_by q in
     let y = x.replies in

@@ -48,6 +48,7 @@ lays f q is ok n p low o k l b =
       allowed = onward p.goes (After.then_num low o (After.then_raw (l ∙ sym k) b After.start));
       form = packed_is _ _ fit form;
       whole = p.whole;
+      some = p.some;
       short = simp length-append (omega (arith, head_long f.head, f.head.narrow, p.short, l, size_le s.bits));
     }
 

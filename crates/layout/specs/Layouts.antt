@@ -54,6 +54,7 @@ layout_bytes l = front_bytes l.front ++ (l.by.set.bits ∷ tags_by l.by)
 pub record Fronts (f : Front) (is : List Item) (g : Grammar) : Type 0 where
   pub form : bits (front_bytes f) ≡ spell is
   pub whole : f.head.width % 8 ≡ 0
+  pub some : 8 ≤ f.head.width
   pub fit : Bytes (middle_bytes f.middle)
   pub short : length (middle_bytes f.middle) ≤ 72
   pub goes : After message is g
@@ -63,6 +64,7 @@ pub record Lays (is : List Item) (l : Layout) : Type 0 where
   pub allowed : After message is Grammar.done
   pub form : layout_bytes l ≡ packed is
   pub whole : l.front.head.width % 8 ≡ 0
+  pub some : 8 ≤ l.front.head.width
   pub short : length (layout_bytes l) ≤ 141
 
 -- Fields that the format allows have a layout, and no others.
