@@ -13,7 +13,7 @@ use Rattle.checks.specs.Checks.{genuine}
 use Rattle.wire.specs.declared.message.Message.{Message}
 use Rattle.wire.specs.Messages.{Msg, Reply, meaning}
 use Rattle.wire.specs.Acts.{lowest, tag_of, tag_number}
-use Rattle.signed.specs.Signed.{Tagged}
+use Rattle.signed.specs.Signed.{SignerTagged}
 use Rattle.wire.proofs.Signs.{lowest_fits}
 use Rattle.wire.proofs.Spelt.{between}
 use Rattle.row.specs.declared.state.State.{State}
@@ -24,7 +24,7 @@ use Rattle.admission.proofs.Early.{Passed, passed}
 use Rattle.voting.specs.Votes.{Taken, WholeTags}
 
 -- A signer's tag is the number of its bytes; another board has none.
-pub heard_as : (m : Msg) (a b : ℕ) (o : Option ℕ) → WholeTags m a → Tagged m b o → IfSome o (λ x. x < 2 ^ 64) → unwrap_or o 0 ≡ heard_tag m a b
+pub heard_as : (m : Msg) (a b : ℕ) (o : Option ℕ) → WholeTags m a → SignerTagged m b o → IfSome o (λ x. x < 2 ^ 64) → unwrap_or o 0 ≡ heard_tag m a b
 heard_as m a b (Some x) w t fits =
     sym (cond-true (member a b) (tag_number (tag_of m b)) 0 (ap (λ s. member s b) (sym w.signed) ∙ t.0) ∙ number_is x (tag_of m b) fits t.1)
 heard_as m a b None w t fits =
