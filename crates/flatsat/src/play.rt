@@ -79,6 +79,7 @@ fn lines(heap: Global, script: &[u8]) -> Result<Page, AllocError>
         keys: None,
     };
     let mut rest = script;
+    // Not `split`: behind the last newline it has one more line, an empty one, which is no line of the script.
     while !rest.is_empty() {
         let (line, after) = next_line(rest);
         page = page.line(heap, line)?;
