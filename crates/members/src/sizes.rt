@@ -25,7 +25,8 @@ pub fn misfit(row: &Row, m: &Message<'_>) -> bool
             != row.view().one_correct(),
         Message::Proposal { by, .. } | Message::Change { by, .. } => by.set.len() != quorum,
         Message::Last { proof, .. } => odd_proof(row, proof.set),
-        Message::SuggestLast { replies, proof, .. } => replies.set.len() != quorum || odd_proof(row, proof.set),
+        Message::SuggestLast { replies, proof, .. } => replies.set.len() != quorum
+            || odd_proof(row, proof.set),
         _ => false,
     }
 }
