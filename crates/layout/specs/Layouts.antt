@@ -13,7 +13,7 @@ use Rattle.wire.specs.declared.message.Tags.{Tags}
 use Rattle.wire.specs.declared.message.Tagged.{Tagged}
 use Rattle.wire.specs.declared.message.Replies.{Replies as RepliesOf}
 use Rattle.wire.specs.Fields.{carried, entered, entries, lone, proof}
-use Rattle.wire.specs.Messages.{Msg, Reply, tags_of, tags_by, replies_by}
+use Rattle.wire.specs.Messages.{Msg, Reply, entry_byte, tags_of, tags_by, replies_by}
 use Rattle.wire.specs.Format.{message, body, opening, content_values, packed, reply_values, replies_values, set_values, values}
 use Rattle.layout.specs.declared.plan.Front.{Front}
 use Rattle.layout.specs.declared.plan.Layout.{Layout}
@@ -25,10 +25,6 @@ use Rattle.layout.specs.Measures.{Bytes, Gathers, Ungathered}
 -- The bytes of a head: its bits, eight a byte.
 abbrev pub head_bytes : Head → List ℕ
 head_bytes h = bytes_of (h.width / 8) (bits_of h.width h.number)
-
--- An entry's byte: the earlier rank on top, a zero bit, the change.
-abbrev pub entry_byte : Entry → ℕ
-entry_byte e = e.earlier % 16 * 16 + e.change % 8
 
 -- The bytes of replies: each entry before its tag.
 unfoldable pub replies_bytes : List Reply → List ℕ

@@ -115,10 +115,14 @@ counted c b t = record { set = the_set (insert c.set.bits b); tags = slice_set c
 abbrev pub count_tags : Count → List ℕ
 count_tags c = stored_tags c.set.bits c.tags
 
--- The entry of the kept proposal.
+-- The entry that tells a kept proposal.
+abbrev pub told_of : Kept → Entry
+told_of k = record { earlier = k.rank; change = k.change }
+
+-- The entry that a row tells: of the kept proposal, or of none.
 abbrev pub kept_entry : Option Kept → Entry
 kept_entry None = none
-kept_entry (Some k) = record { earlier = k.rank; change = k.change }
+kept_entry (Some k) = told_of k
 
 -- A row in a new view: floor three times its members, nobody suspect, nothing kept, nothing counted, idle.
 abbrev pub new_voter : ℕ → Voter

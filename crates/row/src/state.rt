@@ -1,7 +1,7 @@
 // The state of a row: plain values, fixed memory. A new view makes voter and leader anew.
 // Rules: docs/RULES.md, "The row".
 ghost use Rattle.std.specs.Prelude.{◌≡◌, ◌<◌, length};
-ghost use Rattle.row.specs.States.{count_at, place_of};
+ghost use Rattle.row.specs.States.{count_at, place_of, told_of};
 
 use boards::Set;
 use views::history::History;
@@ -51,6 +51,18 @@ impl Slot {
 pub struct Kept {
     pub rank: u8,
     pub change: u8,
+}
+
+// What a row tells of the proposal that it keeps.
+impl From<Kept> for Entry {
+    ghost from_gives = { λ k e. e ≡ told_of k };
+
+    fn from(k: Kept) -> Entry {
+        Entry {
+            earlier: k.rank,
+            change: k.change,
+        }
+    }
 }
 
 // Where the row stands as manager or deputy.

@@ -36,13 +36,7 @@ pub(crate) fn heard_count(m: &Message<'_>, set: Set) -> Count
 pub(crate) fn kept_entry(row: &Row) -> Entry
     ensures { result ≡ kept_entry row.now.state.voter.kept }
 {
-    row.state.voter.kept.map_or(
-        Entry::NONE,
-        |Kept { rank, change }| Entry {
-            earlier: rank,
-            change,
-        },
-    )
+    row.state.voter.kept.map_or(Entry::NONE, Entry::from)
 }
 
 // The acks that it has to show for that.

@@ -114,6 +114,10 @@ none = record { earlier = 0; change = 0 }
 abbrev pub entry_in : ℕ → Entry
 entry_in b = record { earlier = b / 16; change = b % 8 }
 
+-- An entry's byte: the earlier rank on top, a zero bit, the change.
+abbrev pub entry_byte : Entry → ℕ
+entry_byte e = e.earlier % 16 * 16 + e.change % 8
+
 -- The reply that begins at byte i: a byte with the entry, then the tag.
 abbrev pub reply_at : List ℕ → ℕ → Reply
 reply_at xs i = record { entry = entry_in (slice_index xs i); tag = take 8 (drop (i + 1) xs) }

@@ -1,6 +1,6 @@
 // The kinds of messages, by their numbers on the backplane.
 // Numbers and names: docs/FRAMES.md, "Kinds"; formal text: specs/Kinds.antt.
-ghost use Rattle.std.specs.Prelude.{Some};
+ghost use Rattle.std.specs.Prelude.{◌≡◌, Some};
 ghost use Rattle.wire.specs.Kinds.{kind_name, KindNumbered};
 
 use std::fmt;
@@ -51,11 +51,12 @@ impl TryFrom<u8> for Kind {
     }
 }
 
-impl fmt::Display for Kind {
-    ghost output = { λ k. Some (kind_name k) };
-
-    fn fmt<W: fmt::Write>(&self, f: &mut fmt::Formatter<W>) -> fmt::Result {
-        f.write_str(match self {
+impl Kind {
+    // Its name. Beside `Display`, for who writes to bytes and has to know that nothing but memory can be wanting.
+    pub fn name(self) -> &'static str
+        ensures { result.now ≡ kind_name self }
+    {
+        match self {
             Kind::Notify => "notify",
             Kind::Suggest => "suggest",
             Kind::Ack => "ack",
@@ -69,6 +70,14 @@ impl fmt::Display for Kind {
             Kind::Init => "init",
             Kind::Echo => "echo",
             Kind::Commit => "commit",
-        })
+        }
+    }
+}
+
+impl fmt::Display for Kind {
+    ghost output = { λ k. Some (kind_name k) };
+
+    fn fmt<W: fmt::Write>(&self, f: &mut fmt::Formatter<W>) -> fmt::Result {
+        f.write_str(self.name())
     }
 }

@@ -2,7 +2,7 @@
 // Rules: docs/FRAMES.md, "Kinds". What a value means, apart from where its bytes lie, is `meaning` in specs/Messages.antt.
 ghost use Rattle.std.specs.Prelude.{◌≡◌, Some};
 ghost use Rattle.wire.specs.Kinds.{kind_number};
-ghost use Rattle.wire.specs.Messages.{entry_in, kind, meaning, sort_name, view_of, SortNumbered};
+ghost use Rattle.wire.specs.Messages.{entry_byte, entry_in, kind, meaning, sort_name, view_of, SortNumbered};
 
 use crate::kind::{Kind, Unknown};
 use boards::Set;
@@ -29,14 +29,23 @@ impl TryFrom<u8> for Sort {
     }
 }
 
+impl Sort {
+    // Its name.
+    pub fn name(self) -> &'static str
+        ensures { result.now ≡ sort_name self }
+    {
+        match self {
+            Sort::Report => "report",
+            Sort::End => "end",
+        }
+    }
+}
+
 impl fmt::Display for Sort {
     ghost output = { λ s. Some (sort_name s) };
 
     fn fmt<W: fmt::Write>(&self, f: &mut fmt::Formatter<W>) -> fmt::Result {
-        f.write_str(match self {
-            Sort::Report => "report",
-            Sort::End => "end",
-        })
+        f.write_str(self.name())
     }
 }
 
@@ -64,6 +73,15 @@ impl From<u8> for Entry {
             earlier: b / 16,
             change: b % 8,
         }
+    }
+}
+
+// The byte of an entry, with a 0 bit between rank and change.
+impl From<Entry> for u8 {
+    ghost from_gives = { λ e b. b ≡ entry_byte e };
+
+    fn from(e: Entry) -> u8 {
+        e.earlier % 16 * 16 + e.change % 8
     }
 }
 

@@ -6,7 +6,8 @@ use Rattle.boards.specs.Boards.{member, place}
 use Rattle.wire.specs.declared.message.Entries.{Entries}
 use Rattle.wire.specs.Messages.{Reply, listed, joined, tag_bytes}
 use Rattle.layout.specs.Measures.{reply_of}
-use Rattle.layout.specs.Layouts.{entry_byte, replies_bytes}
+use Rattle.layout.specs.Layouts.{replies_bytes}
+use Rattle.wire.specs.Messages.{entry_byte}
 use Rattle.layout.proofs.Stored.{joined_more, joined_long}
 use Rattle.layout.proofs.Replies.{listed_in, listed_out}
 

@@ -2,8 +2,8 @@
 // A cursor keeps the bytes and the place up to which they are written: each part begins where the one before it ends.
 ghost use Rattle.std.specs.Prelude.{◌≡◌, ◌+◌, ◌*◌, ◌%◌, ◌≤◌, ◌∷◌, length};
 ghost use Rattle.boards.specs.Boards.{size};
-ghost use Rattle.wire.specs.Messages.{tag_bytes, tags_by, stored_tags, replies_by};
-ghost use Rattle.layout.specs.Layouts.{head_bytes, entry_byte, replies_bytes, middle_bytes, layout_bytes};
+ghost use Rattle.wire.specs.Messages.{entry_byte, tag_bytes, tags_by, stored_tags, replies_by};
+ghost use Rattle.layout.specs.Layouts.{head_bytes, replies_bytes, middle_bytes, layout_bytes};
 ghost use Rattle.writer.specs.Writes.{Put, Puts};
 
 use boards::Set;
@@ -124,7 +124,7 @@ impl<'b> Cursor<'b> {
         requires { self.old.at + 1 + length (tags_by tag) ≤ length self.old.out.now }
         ensures { Puts self.old (entry_byte entry ∷ tags_by tag.entry) self.new }
     {
-        self.put(&[entry.earlier % 16 * 16 + entry.change % 8]);
+        self.put(&[u8::from(entry)]);
         self.put_tags(tag);
     }
 }

@@ -2,7 +2,8 @@
 -- There is room for nine bytes for each.
 use Rattle.std.proofs.Common.{◌≡◌, ◌∷◌, ◌++◌, sym, ap, ◌∙◌, arith}
 use Rattle.boards.proofs.Sets.{place_below}
-use Rattle.layout.specs.Layouts.{entry_byte, replies_bytes}
+use Rattle.layout.specs.Layouts.{replies_bytes}
+use Rattle.wire.specs.Messages.{entry_byte}
 use Rattle.layout.proofs.Replies.{absent, replies_listed}
 use Rattle.layout.proofs.Fronts.{listed_bytes}
 use Rattle.writer.proofs.Puts.{kept, none_at, more_at, same_at, reached}
