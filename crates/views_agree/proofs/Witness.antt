@@ -10,6 +10,7 @@ use Rattle.boards.proofs.Sets.{size_same, size_none}
 use Rattle.views.specs.Shares.{share, quorum}
 use Rattle.views.specs.Groups.{toggle}
 use Rattle.views.specs.Histories.{members_from, members_of, begun, grown}
+use Rattle.schemes.specs.Bounds.{signable_says}
 use Rattle.schemes.specs.Meaning.{signable, sized, Signed as SignedGood}
 use Rattle.grammar.specs.Grammar.{Grammar}
 use Rattle.grammar.proofs.Held.{Held, stand}
@@ -236,6 +237,7 @@ no_boards b i = absurd (both_ways (member 0 b) (member_none b) i)
 
 pub some_change : SomeChange
 some_change = record {
+  lawful = λ s b w t h. signable_says b w h;
   start = start;
   rows = rows4;
   history = changes ∷ readies ∷ acks ∷ asks ∷ [];

@@ -2,7 +2,7 @@
 -- In one of four steps board 0, alone in view 1, asks board 1 in, and defines view 2 with both.
 use Rattle.std.specs.Prelude.{◌≡◌, ℕ, false, List}
 use Rattle.schemes.specs.declared.Scheme.{Ghosts}
-use Rattle.schemes.specs.Meaning.{signable, Signed as SignedGood}
+use Rattle.schemes.specs.Meaning.{signable, Bounded as SignableOnly, Signed as SignedGood}
 use Rattle.row.specs.declared.state.State.{State}
 use Rattle.views_agree.specs.Agreement.{Step, Started, Promised, Leads, Signs, Vouched, Bounded, Defines}
 
@@ -12,12 +12,13 @@ SignedWasHanded {S} g =
     (e : Step) (s s2 : S) → Promised g e.call e s s2 → e.before.board ≡ e.board
     → (w : List ℕ) → Signs e w → (tag : ℕ) × SignedGood (g.good s) (g.good s2) (g.spent s) e.board w tag
 
--- A scheme to which every tag is good for what can be signed, and which is never spent: the theorem asks nothing more of one.
+-- A scheme to which every tag is good for what can be signed, and which is never spent.
 abbrev pub trusting : Ghosts (Unit {0})
 trusting = record { good = λ s b w t. signable b w; spent = λ s. false }
 
--- A history with no faulty board in which board 0 defines the set of board 0 as its first view and that of boards 0 and 1 as its second.
+-- A history with no faulty board, over a scheme that keeps the law of schemes, in which board 0 defines the set of board 0 as its first view and that of boards 0 and 1 as its second.
 pub record SomeChange : Type 0 where
+  pub lawful : SignableOnly trusting.good
   pub start : List State
   pub rows : List State
   pub history : List Step
