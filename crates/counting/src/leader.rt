@@ -42,7 +42,7 @@ fn undercuts(entry: Entry, low: Entry) -> bool
     entry.earlier != 0 && (low.earlier == 0 || entry.earlier < low.earlier)
 }
 
-// The entries with that of one board more.
+// The entries with that of one board more. Tried inside `told`: there the length of the entries is not found, and that proof stays open.
 fn with_entry(old: &[Entry; 8], board: u8, entry: Entry) -> [Entry; 8]
     requires { board < 8 }
     ensures is { result ≡ slice_set old.now board entry }

@@ -1,11 +1,12 @@
 // The state of a row: plain values, fixed memory. A new view makes voter and leader anew.
 // Rules: docs/RULES.md, "The row".
 ghost use Rattle.std.specs.Prelude.{◌≡◌, ◌<◌, length};
-ghost use Rattle.row.specs.States.{count_at, place_of, told_of};
+ghost use Rattle.wire.specs.Messages.{tags_by};
+ghost use Rattle.row.specs.States.{count_at, count_tags, place_of, told_of};
 
 use boards::Set;
 use views::history::History;
-use wire::message::Entry;
+use wire::message::{Entry, Tagged, Tags};
 
 // Whose lone messages were counted, with their tags by board number.
 #[derive(Clone, Copy)]
@@ -19,6 +20,17 @@ impl Count {
         set: Set::EMPTY,
         tags: [0; 8],
     };
+
+    // Its boards with their tags, as a message has them.
+    pub fn tagged(&self) -> Tagged<'_>
+        ensures set { result.set.bits ≡ self.now.set.bits }
+        ensures tags { tags_by result ≡ count_tags self.now }
+    {
+        Tagged {
+            set: self.set,
+            tags: Tags::Stored(&self.tags),
+        }
+    }
 }
 
 // Which of a leader's counts a lone message goes to: notifies are counted change by change, the other kinds once each.
@@ -117,6 +129,9 @@ pub struct State {
     pub voter: Voter,
     pub leader: Leader,
 }
+
+// The bytes that are enough for every message that a board sends; a call that is offered fewer is refused.
+pub const ENOUGH: usize = 128;
 
 // What an accepted call sent: to whom, and how many of the offered bytes the message has; no boards and 0 where nothing is sent.
 #[derive(Clone, Copy)]
