@@ -28,6 +28,9 @@ fn trusted(row: &Row, suspects: Set) -> u8
     highest.unwrap()
 }
 
+// Row, scheme and bytes stay three parameters, as in crate `voting`: of a struct of three `&mut` each contract would have to name
+// what lies behind every field.
+
 // A notify to the manager; it is all that an ask for a board to join does.
 pub(crate) fn notify<S: Scheme>(row: &Row, scheme: &mut S, change: u8, out: &mut [u8]) -> Sent
     requires able { Able S.Scheme scheme.old out.old }

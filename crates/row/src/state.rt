@@ -97,7 +97,7 @@ pub struct Voter {
     pub support: Count,
 }
 
-// What the row counts as manager or deputy, slot by slot;
+// What the row counts as manager or deputy, slot by slot: a table, not five fields, since the five counting kinds share one rule;
 // the entries of the lasts by board number; the lowest earlier rank among them, and the proof that was first heard with it.
 #[derive(Clone, Copy)]
 pub struct Leader {

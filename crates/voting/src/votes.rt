@@ -27,6 +27,8 @@ use wire::message::Message;
 use words::statement::Statement;
 
 // Row, scheme and bytes stay three parameters: of a struct of three `&mut` each contract would have to name what lies behind every field.
+// Ranks and boards come as the plain numbers of the format: the rules compare them with 0 and with n, and a type would be taken apart
+// at each comparison. So their bounds stand in the contracts.
 
 // An ack for a change.
 #[tactic(auto, unfolding(row::specs::Rows::keeps))]
@@ -45,7 +47,8 @@ fn ack<S: Scheme>(row: &mut Row, scheme: &mut S, rank: u8, change: u8, out: &mut
     sent
 }
 
-// A ready for a proposal, which is kept with the acks it came with.
+// A ready for a proposal, which is kept with the acks it came with. Its pieces stand beside m: tags are asked of a whole message,
+// and only the match that took it apart knows that it is a proposal.
 fn ready<S: Scheme>(
     row: &mut Row,
     scheme: &mut S,
@@ -135,6 +138,7 @@ fn taken<S: Scheme>(
 }
 
 // Hears a suggest, a proposal, a query or a suggest-last; any other message, and a value that no bytes spell, has no answer here.
+// So an `Option` of the `Result`: no answer is neither a reason against the message nor something sent.
 pub fn hear<S: Scheme>(
     row: &mut Row,
     scheme: &mut S,
