@@ -89,6 +89,7 @@ pub enum Stand {
 
 // What the row voted in its latest view: the floor only falls, so that no step is answered twice;
 // the boards it suspects; the proposal it keeps, and beside it the acks that proposal came with.
+// The acks are not inside the proposal, which is no plainer: a last shows them as one `Count`, with no boards where nothing is kept.
 #[derive(Clone, Copy)]
 pub struct Voter {
     pub floor: u8,
@@ -99,6 +100,7 @@ pub struct Voter {
 
 // What the row counts as manager or deputy, slot by slot: a table, not five fields, since the five counting kinds share one rule;
 // the entries of the lasts by board number; the lowest earlier rank among them, and the proof that was first heard with it.
+// Entries stand beside the counts, not in them: the five kinds share one `Count`, and only lasts tell entries.
 #[derive(Clone, Copy)]
 pub struct Leader {
     pub stand: Stand,

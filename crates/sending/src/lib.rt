@@ -12,7 +12,7 @@ ghost use Rattle.sending.specs.Sends.{GoesOut, SignsFor, Speaks};
 
 use boards::Set;
 use layout::lay::lay_out;
-use row::state::{Count, Sent, ENOUGH};
+use row::state::{Count, ENOUGH, Sent};
 use schemes::Scheme;
 use wire::message::{Message, Tags};
 use words::statement::Statement;
