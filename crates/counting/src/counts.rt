@@ -13,7 +13,7 @@ use row::state::{Count, Leader, Sent, Slot, Stand};
 use sending::post;
 use signed::tag;
 use views::view::View;
-use wire::message::{Message, Tagged, Tags};
+use wire::message::Message;
 
 // A lone message that is counted, but for its speaker and tag.
 #[derive(Clone, Copy)]
@@ -73,10 +73,7 @@ impl Tally {
     fn certificate(self, view: u8, count: &Count) -> Message<'_>
         ensures { meaning result ≡ certificate self view count.now }
     {
-        let by = Tagged {
-            set: count.set,
-            tags: Tags::Stored(&count.tags),
-        };
+        let by = count.tagged();
         match self {
             Tally::Notify { change } => Message::Suggest { view, change, by },
             Tally::Ack { rank, change } => Message::Proposal {

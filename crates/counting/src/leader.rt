@@ -42,7 +42,7 @@ fn undercuts(entry: Entry, low: Entry) -> bool
     entry.earlier != 0 && (low.earlier == 0 || entry.earlier < low.earlier)
 }
 
-// The entries with that of one board more.
+// The entries with that of one board more. Tried inside `told`: there the length of the entries is not found, and that proof stays open.
 fn with_entry(old: &[Entry; 8], board: u8, entry: Entry) -> [Entry; 8]
     requires { board < 8 }
     ensures is { result ≡ slice_set old.now board entry }
@@ -54,6 +54,7 @@ fn with_entry(old: &[Entry; 8], board: u8, entry: Entry) -> [Entry; 8]
 }
 
 // The leader with one last more: its entry, and its proof if its earlier rank is the lowest so far.
+// Not by `gained`, which is for the slots before that of the lasts: what that keeps of `tells` does not hold in this slot.
 pub(crate) fn told(leader: &Leader, board: u8, tag: u64, entry: Entry, proof: Count) -> Leader
     requires { Tellable leader.now board entry proof }
     ensures is { result ≡ told leader.now board tag entry proof }

@@ -1,5 +1,5 @@
 -- A search over the eight boards tells whether some board passes a test.
--- One law for the chains of this crate.
+-- One law, for the searches of this crate.
 use Rattle.std.proofs.Common.{◌≡◌, ℕ, Bool}
 use Rattle.std.proofs.Math.Bool.{or_assoc, or-false}
 use Rattle.std.specs.List.{list_any, range_with_len}

@@ -1,6 +1,7 @@
 // The entries that boards told in a message, each tested alone, and SPLIT.
 // Rules: docs/RULES.md, "Changing the group"; what some board told: specs/Told.antt.
-ghost use Rattle.std.specs.Prelude.{◌≡◌};
+ghost use Rattle.std.specs.Prelude.{◌≡◌, Bool};
+ghost use Rattle.wire.specs.declared.message.Entry.{Entry};
 ghost use Rattle.wire.specs.Messages.{meaning};
 ghost use Rattle.words.specs.Said.{said};
 ghost use Rattle.row.specs.Refusals.{misplaced, differs, split};
@@ -41,18 +42,26 @@ fn entry_by(m: &Message<'_>, board: u8) -> Option<Entry>
     statement(m, board).map(entry_of)
 }
 
+// Whether some board told an entry that passes a test.
+fn some_told<F: Fn(Entry) -> bool>(m: &Message<'_>, passes: F) -> bool
+    requires { F.IsAlwaysCallable passes }
+    ensures { (test : Entry → Bool) → ((e : Entry) (r : Bool) → F.post passes e r → r ≡ test e) → result ≡ some_told test (meaning m.now) }
+{
+    (0..8).any(|board| entry_by(m, board).is_some_and(|entry| passes(entry)))
+}
+
 // Whether some board told an entry whose earlier rank is misplaced.
 pub(crate) fn some_misplaced(m: &Message<'_>, rank: u8, n: u8) -> bool
     ensures { result ≡ some_told (misplaced rank n) (meaning m.now) }
 {
-    (0..8).any(|board| entry_by(m, board).is_some_and(|entry| misplaced(rank, n, entry)))
+    some_told(m, |entry| misplaced(rank, n, entry))
 }
 
 // Whether some board told an entry that differs from the lowest.
 fn some_differs(m: &Message<'_>, low: Entry) -> bool
     ensures { result ≡ some_told (differs low) (meaning m.now) }
 {
-    (0..8).any(|board| entry_by(m, board).is_some_and(|entry| differs(low, entry)))
+    some_told(m, |entry| differs(low, entry))
 }
 
 // SPLIT: in a suggest-last the lowest earlier rank stands with two changes.

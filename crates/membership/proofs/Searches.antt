@@ -2,7 +2,7 @@
 -- By the calls of the search's test, from the last board down.
 use Rattle.std.proofs.Common.{◌≡◌, ℕ, zero, suc, ◌+◌, ◌-◌, ◌<◌, Bool, true, false, List, [], ◌∷◌, Some, None, Option, MatchOption, IfSome, sym, refl, ap, ◌∙◌, subst, arith}
 use Rattle.std.proofs.lemmas.Bool.{cond-true, cond-false}
-use Rattle.std.specs.Option.{unwrap_or}
+use Rattle.std.specs.Option.{unwrap_or, IsSome}
 use Rattle.std.specs.declared.iter.Rev.{Rev}
 use Rattle.std.specs.declared.ops.Range.{Range}
 use Rattle.std.specs.Iterator.{Yields, YieldsThen}
@@ -11,6 +11,7 @@ use Rattle.std.specs.Fn.{CalledAt}
 use denote.Ref.{Bor}
 use denote.Param.Members.{Mut}
 use Rattle.row.specs.States.{highest}
+use Rattle.row.proofs.Chosen.{highest_passes}
 
 -- A range yields its last number, which is then its end.
 abbrev back : Rev (Range ℕ) → Option ℕ → Rev (Range ℕ) → Type 0
@@ -42,3 +43,8 @@ module _ {F : Type 0} {g : Mut F (Bor ℕ × Unit {0}) Bool} (f : F) (P : ℕ �
   pub found_highest : (n : ℕ) (s u : Rev (Range ℕ)) (r : Option ℕ) → s.iter ≡ record { start = 0; end = n }
       → (xs : List ℕ) × (j : F) × YieldsThen back s xs r u × FoldsTo (λ p x q. CalledAt g p x false q) f xs j × IfSome r (λ x. (h : F) × CalledAt g j x true h) → unwrap_or r 8 ≡ highest P n
   found_highest n s u r e d = found d.0 n s d.2.0 u r d.1 (ap (λ (k : Range ℕ). k.start) e) (ap (λ (k : Range ℕ). k.end) e) d.2.1 d.2.2 d.3 d.4
+
+-- Where some board passes, the search finds one.
+pub some_found : (P : ℕ → Bool) (b : ℕ) (r : Option ℕ) → b < 8 → P b ≡ true → unwrap_or r 8 ≡ highest P 8 → IsSome r
+some_found P b None h e f = absurd (omega (arith, f, (highest_passes P 8 b h e).0))
+some_found P b (Some x) h e f = refl

@@ -1,6 +1,6 @@
 // What an ask does that is not refused: a notify to the manager, or a deputy message to the highest rank that is not suspect.
 // Rules: docs/RULES.md, "Changing the group". Formal text: specs of crate row, Effects.antt.
-ghost use Rattle.std.specs.Prelude.{◌≡◌, ◌<◌, true, ◌≢◌};
+ghost use Rattle.std.specs.Prelude.{◌≡◌, ◌<◌, true, false, ◌≢◌};
 ghost use Rattle.boards.specs.Boards.{member};
 ghost use Rattle.row.specs.States.{group, inside};
 ghost use Rattle.row.specs.Effects.{asked_out, deputises, notifies, trusted};
@@ -15,16 +15,21 @@ use seats::insert;
 use sending::say;
 use words::statement::Statement;
 
-// The highest member that is not suspect.
+// The highest member that is not suspect: there is one, since a row never suspects its own board.
 fn trusted(row: &Row, suspects: Set) -> u8
+    requires inside { inside row.now.state ≡ true }
+    requires trusts { member suspects.bits row.now.state.board ≡ false }
     ensures { result ≡ trusted row.now.state suspects.bits }
 {
     let view = row.view();
-    (0..8)
+    let highest = (0..8)
         .rev()
-        .find(|board| view.has(*board) && !suspects.has(*board))
-        .unwrap_or(8)
+        .find(|board| view.has(*board) && !suspects.has(*board));
+    highest.unwrap()
 }
+
+// Row, scheme and bytes stay three parameters, as in crate `voting`: of a struct of three `&mut` each contract would have to name
+// what lies behind every field.
 
 // A notify to the manager; it is all that an ask for a board to join does.
 pub(crate) fn notify<S: Scheme>(row: &Row, scheme: &mut S, change: u8, out: &mut [u8]) -> Sent

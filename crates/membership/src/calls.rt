@@ -9,6 +9,8 @@ use row::row::Row;
 use row::state::Sent;
 use schemes::Scheme;
 
+// Row, scheme and bytes stay three parameters, as in crate `voting`: a struct of three `&mut` would make each contract longer.
+
 // Asks for another member to leave.
 pub fn ask_out<S: Scheme>(
     row: &mut Row,

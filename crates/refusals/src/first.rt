@@ -11,12 +11,10 @@ use members::group::{barred, stranger};
 use members::ranks::inside;
 use members::sizes::misfit;
 use row::row::Row;
+use row::state::ENOUGH;
 use turns::{known, late, untimely};
 use views::history::LAST;
 use wire::message::Message;
-
-// The fewest bytes that a caller offers for what is sent.
-const LEAST: usize = 128;
 
 // Whether a row may take a message, or why not: `genuine` says whether every tag of it is good, `spent` whether the scheme is.
 pub fn may_hear(
@@ -28,7 +26,7 @@ pub fn may_hear(
 ) -> Result<(), Refusal>
     ensures { Unless (hear_refusal row.now.state (meaning m.now) room genuine spent) result }
 {
-    if room < LEAST {
+    if room < ENOUGH {
         Err(Refusal::Out)
     } else if m.view() != row.latest() {
         Err(Refusal::View)
@@ -61,7 +59,7 @@ pub fn may_ask_out(row: &Row, c: u8, room: usize, spent: bool) -> Result<(), Ref
 {
     if c > 7 {
         Err(Refusal::Board)
-    } else if room < LEAST {
+    } else if room < ENOUGH {
         Err(Refusal::Out)
     } else if !inside(row) {
         Err(Refusal::Member)
@@ -86,7 +84,7 @@ pub fn may_ask_in(
 {
     if c > 7 {
         Err(Refusal::Board)
-    } else if room < LEAST {
+    } else if room < ENOUGH {
         Err(Refusal::Out)
     } else if !inside(row) {
         Err(Refusal::Member)

@@ -1,11 +1,12 @@
 // The state of a row: plain values, fixed memory. A new view makes voter and leader anew.
 // Rules: docs/RULES.md, "The row".
 ghost use Rattle.std.specs.Prelude.{◌≡◌, ◌<◌, length};
-ghost use Rattle.row.specs.States.{count_at, place_of, told_of};
+ghost use Rattle.wire.specs.Messages.{tags_by};
+ghost use Rattle.row.specs.States.{count_at, count_tags, place_of, told_of};
 
 use boards::Set;
 use views::history::History;
-use wire::message::Entry;
+use wire::message::{Entry, Tagged, Tags};
 
 // Whose lone messages were counted, with their tags by board number.
 #[derive(Clone, Copy)]
@@ -19,6 +20,17 @@ impl Count {
         set: Set::EMPTY,
         tags: [0; 8],
     };
+
+    // Its boards with their tags, as a message has them.
+    pub fn tagged(&self) -> Tagged<'_>
+        ensures set { result.set.bits ≡ self.now.set.bits }
+        ensures tags { tags_by result ≡ count_tags self.now }
+    {
+        Tagged {
+            set: self.set,
+            tags: Tags::Stored(&self.tags),
+        }
+    }
 }
 
 // Which of a leader's counts a lone message goes to: notifies are counted change by change, the other kinds once each.
@@ -77,6 +89,7 @@ pub enum Stand {
 
 // What the row voted in its latest view: the floor only falls, so that no step is answered twice;
 // the boards it suspects; the proposal it keeps, and beside it the acks that proposal came with.
+// The acks are not inside the proposal, which is no plainer: a last shows them as one `Count`, with no boards where nothing is kept.
 #[derive(Clone, Copy)]
 pub struct Voter {
     pub floor: u8,
@@ -85,8 +98,9 @@ pub struct Voter {
     pub support: Count,
 }
 
-// What the row counts as manager or deputy, slot by slot;
+// What the row counts as manager or deputy, slot by slot: a table, not five fields, since the five counting kinds share one rule;
 // the entries of the lasts by board number; the lowest earlier rank among them, and the proof that was first heard with it.
+// Entries stand beside the counts, not in them: the five kinds share one `Count`, and only lasts tell entries.
 #[derive(Clone, Copy)]
 pub struct Leader {
     pub stand: Stand,
@@ -117,6 +131,9 @@ pub struct State {
     pub voter: Voter,
     pub leader: Leader,
 }
+
+// The bytes that are enough for every message that a board sends; a call that is offered fewer is refused.
+pub const ENOUGH: usize = 128;
 
 // What an accepted call sent: to whom, and how many of the offered bytes the message has; no boards and 0 where nothing is sent.
 #[derive(Clone, Copy)]

@@ -12,14 +12,11 @@ ghost use Rattle.sending.specs.Sends.{GoesOut, SignsFor, Speaks};
 
 use boards::Set;
 use layout::lay::lay_out;
-use row::state::{Count, Sent};
+use row::state::{Count, ENOUGH, Sent};
 use schemes::Scheme;
-use wire::message::{Message, Tagged, Tags};
+use wire::message::{Message, Tags};
 use words::statement::Statement;
 use writer::write;
-
-// The bytes that are enough for every message that a board sends.
-const ENOUGH: usize = 128;
 
 // Whether there are bytes that spell a message.
 pub fn is_formed(m: &Message<'_>) -> bool
@@ -76,10 +73,7 @@ fn lone<'a>(statement: &Statement<'a>, board: u8, shown: &'a Count, tag: u64) ->
             speaker: board,
             entry,
             tag,
-            proof: Tagged {
-                set: shown.set,
-                tags: Tags::Stored(&shown.tags),
-            },
+            proof: shown.tagged(),
         },
         Statement::Init { view, content } => Message::Init { view, content, tag },
         Statement::Echo { view, content } => Message::Echo {

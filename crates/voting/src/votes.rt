@@ -1,11 +1,14 @@
 // The votes of a row: an ack, a ready or a last for the rank that asked for it.
 // Rules: docs/RULES.md, "Changing the group". What each does: `heard` in the specs of crate row, Effects.antt.
-ghost use Rattle.std.specs.Prelude.{◌≡◌, ◌-◌, ◌*◌, ◌<◌, ◌≤◌, length};
+ghost use Rattle.std.specs.Prelude.{◌≡◌, ◌-◌, ◌*◌, ◌<◌, ◌≤◌, length, true};
 ghost use Rattle.boards.specs.Boards.{size};
 ghost use Rattle.wire.specs.Messages.{meaning};
+ghost use Rattle.wire.specs.Format.{Formed};
+ghost use Rattle.checks.specs.Checks.{genuine};
 ghost use Rattle.row.specs.States.{with_floor};
 ghost use Rattle.row.specs.Effects.{acks, heard, keeping, readies, tells};
-ghost use Rattle.row.specs.Refusals.{answered};
+ghost use Rattle.row.specs.Refusals.{answered, hear_refusal, Unless};
+ghost use Rattle.row.specs.Calls.{Hears};
 ghost use Rattle.sending.specs.Sends.{Able, Did, HeardIf};
 ghost use Rattle.voting.specs.Votes.{Taken, WholeTags};
 
@@ -24,6 +27,8 @@ use wire::message::Message;
 use words::statement::Statement;
 
 // Row, scheme and bytes stay three parameters: of a struct of three `&mut` each contract would have to name what lies behind every field.
+// Ranks and boards come as the plain numbers of the format: the rules compare them with 0 and with n, and a type would be taken apart
+// at each comparison. So their bounds stand in the contracts.
 
 // An ack for a change.
 #[tactic(auto, unfolding(row::specs::Rows::keeps))]
@@ -42,7 +47,8 @@ fn ack<S: Scheme>(row: &mut Row, scheme: &mut S, rank: u8, change: u8, out: &mut
     sent
 }
 
-// A ready for a proposal, which is kept with the acks it came with.
+// A ready for a proposal, which is kept with the acks it came with. Its pieces stand beside m: tags are asked of a whole message,
+// and only the match that took it apart knows that it is a proposal.
 fn ready<S: Scheme>(
     row: &mut Row,
     scheme: &mut S,
@@ -113,7 +119,26 @@ fn accepted<S: Scheme>(row: &mut Row, scheme: &mut S, m: &Message<'_>, out: &mut
     }
 }
 
+// What the row answers to a message of the four kinds: the reason against it, or what it does.
+// A function, not `Result::map`: what a closure that it does not call leaves of its captures is not known.
+fn taken<S: Scheme>(
+    verdict: Result<(), Refusal>,
+    row: &mut Row,
+    scheme: &mut S,
+    m: &Message<'_>,
+    out: &mut [u8],
+) -> Result<Sent, Refusal>
+    requires formed { Formed (meaning m.now) }
+    requires votes { answered (meaning m.now) ≡ true }
+    requires judged { Unless (hear_refusal row.old.state (meaning m.now) (length out.old) (genuine (S.good scheme.old) (meaning m.now)) (S.spent scheme.old)) verdict }
+    ensures { Hears S.Scheme row.old.state scheme.old (meaning m.now) out.old result row.new.state scheme.new out.new }
+{
+    verdict?;
+    Ok(accepted(row, scheme, m, out))
+}
+
 // Hears a suggest, a proposal, a query or a suggest-last; any other message, and a value that no bytes spell, has no answer here.
+// So an `Option` of the `Result`: no answer is neither a reason against the message nor something sent.
 pub fn hear<S: Scheme>(
     row: &mut Row,
     scheme: &mut S,
@@ -125,9 +150,6 @@ pub fn hear<S: Scheme>(
     if !answered(m) {
         return None;
     }
-    // Not `Result::map`: what a closure that it does not call leaves of its captures is not known.
-    Some(match judge(row, scheme, m, out.len())? {
-        Ok(()) => Ok(accepted(row, scheme, m, out)),
-        Err(e) => Err(e),
-    })
+    let verdict = judge(row, scheme, m, out.len())?;
+    Some(taken(verdict, row, scheme, m, out))
 }

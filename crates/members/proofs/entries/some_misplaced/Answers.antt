@@ -1,15 +1,8 @@
--- The chain asks every board.
--- From the law of searches over boards.
-use Rattle.std.proofs.Common.{ℕ, ◌∙◌, refl, rules, tests}
-use Rattle.std.proofs.lemmas.Iterator.{YieldsList-from_range}
-use Rattle.std.proofs.lemmas.Iterator.Search.{any_from_yields_List}
-use Rattle.wire.specs.Messages.{meaning}
+-- The closure answers as the test of the rules does.
+-- From the contract of the chain that both tests share.
+use Rattle.std.proofs.Common.{rules, tests}
 use Rattle.row.specs.Refusals.{misplaced}
-use Rattle.members.specs.Told.{entry_by, told}
-use Rattle.members.proofs.Boards.{any_board}
 use Rattle.members.proofs.entries.some_misplaced.Goals as goal
 
 pub returns : goal.returns
-returns c =
-    let P = λ (b : ℕ). told (misplaced c.args.rank c.args.n) (entry_by (meaning c.args.m.now) b) in
-    any_from_yields_List P _ _ c.any.result c.any.ensures.ran (YieldsList-from_range 0 8 8 refl refl) (λ x b q k. search (rules, tests)) ∙ any_board P
+returns c = c.some_told.ensures (misplaced c.args.rank c.args.n) (λ e r q. search (rules, tests))

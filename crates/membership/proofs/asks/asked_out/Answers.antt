@@ -14,3 +14,6 @@ unfolding keeps
 invariant_of-row g c =
     let w = c.args.row.now in
     (tt, tt, (w.seated, (w.sound, (w.keeps, (w.tells, (w.proves, (still_trusts w c.args.c _ c.insert-suspects.ensures c.requires.asked.2, tt)))))))
+
+pub trusted-board-requires-clause-trusts : goal.trusted-board-requires-clause-trusts
+trusted-board-requires-clause-trusts g c = still_trusts c.args.row.now c.args.c _ c.insert-suspects.ensures c.requires.asked.2
