@@ -24,12 +24,10 @@ pub(crate) enum Verb {
 fn named(word: &[u8]) -> Option<Verb>
     ensures { Named word.now result }
 {
-    if word == b"read".as_slice() {
-        Some(Verb::Read)
-    } else if word == b"keys".as_slice() {
-        Some(Verb::Keys)
-    } else {
-        None
+    match word {
+        b"read" => Some(Verb::Read),
+        b"keys" => Some(Verb::Keys),
+        _ => None,
     }
 }
 
@@ -82,10 +80,7 @@ fn said(text: &[u8]) -> Result<Option<Call<'_>>, Reason>
     let Some((name, rest)) = next_word(text) else {
         return Ok(None);
     };
-    // Not `ok_or`: its Err would have to be traced back to `None` by hand.
-    let Some(verb) = named(name) else {
-        return Err(Reason::UnknownCall);
-    };
+    let verb = named(name).ok_or(Reason::UnknownCall)?;
     let word = one_word(rest)?;
     match verb {
         Verb::Read => Ok(Some(Call::Read(digits(word)?))),
