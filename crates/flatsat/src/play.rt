@@ -27,8 +27,8 @@ fn heard<'a>(bytes: &'a [u8], keys: Option<&[[u8; 16]; 8]>) -> Answer<'a>
     ensures { Answers (option_copied keys.entry) bytes.now result }
 {
     match (read(bytes), keys) {
-        (Ok(message), Some(keys)) => Answer::Audited(message, audit(keys, &message)),
-        (Ok(message), None) => Answer::Heard(message),
+        (Ok(message), Some(keys)) => Answer::Heard(message, Some(audit(keys, &message))),
+        (Ok(message), None) => Answer::Heard(message, None),
         (Err(fault), _) => Answer::Refused(Refusal::from(fault)),
     }
 }
