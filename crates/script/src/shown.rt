@@ -195,7 +195,13 @@ impl Text for Message<'_> {
                 change,
                 speaker,
                 tag,
-            } => { (Graded(Kind::Ready, view, rank, change), Spoken(speaker, tag)).write(line) }
+            } => {
+                (
+                    Graded(Kind::Ready, view, rank, change),
+                    Spoken(speaker, tag),
+                )
+                    .write(line)
+            }
             Message::Change {
                 view,
                 rank,
@@ -230,7 +236,13 @@ impl Text for Message<'_> {
                 rank,
                 replies,
                 proof,
-            } => { (Ranked(Kind::SuggestLast, view, rank), (replies, Proof(proof))).write(line) }
+            } => {
+                (
+                    Ranked(Kind::SuggestLast, view, rank),
+                    (replies, Proof(proof)),
+                )
+                    .write(line)
+            }
             Message::Init { view, content, tag } => {
                 (
                     Opening(Kind::Init, view),
