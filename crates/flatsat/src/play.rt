@@ -77,7 +77,8 @@ fn lines(heap: Global, script: &[u8]) -> Result<Page, AllocError>
         keys: None,
     };
     let mut rest = script;
-    // Not `split`: behind the last newline it has one more line, an empty one, which is no line of the script.
+    // Not `split`: no plainer, since behind the last newline it has one more line, an empty one, which is no line of the script:
+    // that it answers nothing, and that the count has room for it, would have to be shown besides.
     while !rest.is_empty() {
         let (line, after) = next_line(rest);
         page = page.line(heap, line)?;

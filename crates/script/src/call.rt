@@ -4,7 +4,7 @@ ghost use Rattle.script.specs.Words.{body};
 ghost use Rattle.script.specs.Calls.{Named, OneWord, ArgumentRead, ArgumentKeys, Parses};
 
 use crate::answer::Reason;
-use crate::words::{body, front, is_text, next_word};
+use crate::words::{body, is_text, next_word};
 
 // A call: `read` has the hexadecimal digits of the bytes to read, `keys` those of the eight boards' keys.
 #[derive(Clone, Copy, PartialEq, Eq)]
@@ -13,7 +13,7 @@ pub enum Call<'a> {
     Keys(&'a [u8]),
 }
 
-// The names of calls.
+// The names of calls. Apart from `Call`: the one word after a name is asked for before it is read, in the same way for each name.
 #[derive(Clone, Copy, PartialEq, Eq)]
 pub(crate) enum Verb {
     Read,
@@ -49,7 +49,7 @@ fn digits(word: &[u8]) -> Result<&[u8], Reason>
     if word == b"-".as_slice() {
         return Ok(&word[..0]);
     }
-    if front(word, |b| !b.is_ascii_hexdigit()) < word.len() {
+    if !word.iter().all(|b| b.is_ascii_hexdigit()) {
         return Err(Reason::NotHexadecimal);
     }
     if word.len() % 2 == 1 {
