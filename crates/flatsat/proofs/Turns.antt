@@ -5,7 +5,7 @@ use Rattle.std.specs.declared.alloc.AllocError.{AllocError}
 use Rattle.std.specs.declared.alloc.Global.{Global}
 use Rattle.std.proofs.lemmas.List.{length-drop}
 use Rattle.script.specs.declared.answer.Answer.{Answer}
-use Rattle.script.specs.declared.answer.Answer.TheVariants.{Heard, Audited, Kept, Refused, Wrong}
+use Rattle.script.specs.declared.answer.Answer.TheVariants.{Heard, Kept, Refused, Wrong}
 use Rattle.script.specs.declared.tally.Tally.{Tally}
 use Rattle.script.specs.declared.call.Call.TheVariants.{Keys}
 use Rattle.script.specs.Calls.{Parses}
@@ -30,8 +30,7 @@ pub going_none : (script : List ℕ) (start : State) → Going script start scri
 going_none script start = record { on = λ end p. p; few = omega arith }
 
 one_call : (t : Tally) (a : Answer) (u : Tally) → OneMore t a u → calls u ≤ calls t + 1
-one_call t (Heard m) u h = omega (arith, h.0, h.1, h.2)
-one_call t (Audited m a) u h = omega (arith, h.0, h.1, h.2)
+one_call t (Heard m a) u h = omega (arith, h.0, h.1, h.2)
 one_call t Kept u h = omega (arith, h.0, h.1, h.2)
 one_call t (Refused r) u h = omega (arith, h.0, h.1, h.2)
 one_call t (Wrong e) u h = omega (arith, h.0, h.1, h.2)

@@ -8,7 +8,7 @@ use Rattle.schemes.specs.Keys.{keyed_good}
 use Rattle.codes.specs.declared.Refusal.TheVariants.{Form}
 use Rattle.script.specs.declared.answer.Reason.{Reason}
 use Rattle.script.specs.declared.answer.Answer.{Answer}
-use Rattle.script.specs.declared.answer.Answer.TheVariants.{Heard, Audited, Kept, Refused, Wrong}
+use Rattle.script.specs.declared.answer.Answer.TheVariants.{Heard, Kept, Refused, Wrong}
 use Rattle.script.specs.declared.call.Call.{Call}
 use Rattle.script.specs.declared.call.Call.TheVariants.{Read, Keys}
 use Rattle.script.specs.declared.tally.Tally.{Tally}
@@ -35,8 +35,8 @@ state_of p = record { text = vec_items p.text; tally = p.tally; keys = p.keys }
 
 -- The answer to bytes: the message, audited once there are keys, or FORM with the first fault.
 abbrev pub Answers : KeptKeys → List ℕ → Answer → Type 0
-Answers keys bs (Heard m) = (keys ≡ None) × Reads bs (Ok (meaning m))
-Answers keys bs (Audited m a) = (ks : List (List ℕ)) × (keys ≡ Some ks) × Reads bs (Ok (meaning m)) × Audits (keyed_good ks) (meaning m) a
+Answers keys bs (Heard m None) = (keys ≡ None) × Reads bs (Ok (meaning m))
+Answers keys bs (Heard m (Some a)) = (ks : List (List ℕ)) × (keys ≡ Some ks) × Reads bs (Ok (meaning m)) × Audits (keyed_good ks) (meaning m) a
 Answers keys bs Kept = ⊥
 Answers keys bs (Refused r) = (f : Fault) × (r ≡ Form f) × Reads bs (Err f)
 Answers keys bs (Wrong e) = ⊥

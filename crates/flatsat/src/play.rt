@@ -1,6 +1,6 @@
 // Playing a script: each line is parsed, its call made, its answer added to the text with the line's number.
 // What a whole script answers: specs/Plays.antt.
-ghost use Rattle.std.specs.Prelude.{◌≡◌, ◌+◌, ◌^◌, ◌<◌, IfOk};
+ghost use Rattle.std.specs.Prelude.{◌≡◌, ◌+◌, ◌^◌, ◌<◌, IfOk, option_copied};
 ghost use Rattle.script.specs.Words.{body};
 ghost use Rattle.flatsat.specs.Plays.{state_of, Answers, Told, LinePlayed, LinesPlayed, Played};
 
@@ -23,12 +23,12 @@ struct Page {
 }
 
 // What bytes are read as, audited once there are keys.
-fn heard<'a>(bytes: &'a [u8], keys: &Option<[[u8; 16]; 8]>) -> Answer<'a>
-    ensures { Answers keys.now bytes.now result }
+fn heard<'a>(bytes: &'a [u8], keys: Option<&[[u8; 16]; 8]>) -> Answer<'a>
+    ensures { Answers (option_copied keys.entry) bytes.now result }
 {
     match (read(bytes), keys) {
-        (Ok(message), Some(keys)) => Answer::Audited(message, audit(keys, &message)),
-        (Ok(message), None) => Answer::Heard(message),
+        (Ok(message), Some(keys)) => Answer::Heard(message, Some(audit(keys, &message))),
+        (Ok(message), None) => Answer::Heard(message, None),
         (Err(fault), _) => Answer::Refused(Refusal::from(fault)),
     }
 }
@@ -40,9 +40,7 @@ impl Page {
         ensures { IfOk result (λ p. Told (state_of self) answer.entry (state_of p) × (p.keys ≡ self.keys)) }
     {
         let Page { text, tally, keys } = self;
-        let Some(tally) = tally.count(answer) else {
-            unreachable()
-        };
+        let tally = tally.count(answer).unwrap();
         let text = answer_line(text, tally.calls(), answer)?;
         Ok(Page { text, tally, keys })
     }
@@ -56,7 +54,7 @@ impl Page {
             Ok(None) => Ok(self),
             Ok(Some(Call::Read(digits))) => {
                 let bytes = unhex(Vec::new(heap), digits)?;
-                let answer = heard(&bytes, &self.keys);
+                let answer = heard(&bytes, self.keys.as_ref());
                 self.told(answer)
             }
             Ok(Some(Call::Keys(digits))) => {
@@ -79,7 +77,8 @@ fn lines(heap: Global, script: &[u8]) -> Result<Page, AllocError>
         keys: None,
     };
     let mut rest = script;
-    // Not `split`: behind the last newline it has one more line, an empty one, which is no line of the script.
+    // Not `split`: no plainer, since behind the last newline it has one more line, an empty one, which is no line of the script:
+    // that it answers nothing, and that the count has room for it, would have to be shown besides.
     while !rest.is_empty() {
         let (line, after) = next_line(rest);
         page = page.line(heap, line)?;

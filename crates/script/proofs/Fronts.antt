@@ -1,6 +1,7 @@
 -- The front of bytes that passes a test, and where it ends.
--- For the calls that cut at its end.
-use Rattle.std.proofs.Common.{◌≡◌, ℕ, suc, ◌+◌, ◌<◌, ◌≤◌, Bool, true, false, cond, not, List, [], ◌∷◌, length, sym, refl, ap, ◌∙◌, add-one, arith}
+-- For the calls that cut at its end, or ask whether it is all.
+use Rattle.std.proofs.Common.{Decides, ◌&&◌, true≢false, ◌≡◌, ℕ, suc, ◌+◌, ◌≤◌, Bool, true, false, cond, not, List, [], ◌∷◌, length, sym, refl, ap, ◌∙◌, add-one, arith}
+use Rattle.std.specs.List.{list_all}
 use Rattle.script.specs.Words.{lead, Whole}
 
 module _ (P : ℕ → Bool) where
@@ -11,20 +12,23 @@ module _ (P : ℕ → Bool) where
       let ih = lead_bound bs in
       elim (P b) as (λ v. cond v (suc (lead P bs)) 0 ≤ suc (length bs)) [ true ↦ omega arith | false ↦ omega arith ]
 
-  twice : (b : ℕ) → not (not (P b)) ≡ P b
-  twice b = elim (P b) as (λ v. not (not v) ≡ v) [ true ↦ refl | false ↦ refl ]
-
-  pub lead_twice : (bs : List ℕ) → lead (λ b. not (not (P b))) bs ≡ lead P bs
+  all_whole : (bs : List ℕ) → list_all P bs ≡ true → Whole P bs
   unfolding lead
-  lead_twice [] = refl
-  lead_twice (b ∷ bs) = λ i. cond (twice b i) (suc (lead_twice bs i)) 0
+  all_whole [] e = refl
+  all_whole (b ∷ bs) e =
+      (elim (P b) as (λ v. (v && list_all P bs) ≡ true → cond v (suc (lead P bs)) 0 ≡ suc (length bs))
+      [ true ↦ λ a. ap suc (all_whole bs a) | false ↦ λ a. absurd (true≢false (sym a)) ]) e
 
-  -- a search that finds no byte that fails, and one that does
-  pub whole : {n : ℕ} (bs : List ℕ) → n ≡ lead (λ b. not (not (P b))) bs → length bs ≤ n → n ≤ length bs → Whole P bs
-  whole bs e above within = omega (arith, e, lead_twice bs, above, within)
+  whole_all : (bs : List ℕ) → Whole P bs → list_all P bs ≡ true
+  unfolding lead
+  whole_all [] w = refl
+  whole_all (b ∷ bs) w =
+      (elim (P b) as (λ v. cond v (suc (lead P bs)) 0 ≡ suc (length bs) → (v && list_all P bs) ≡ true)
+      [ true ↦ λ a. whole_all bs (omega (arith, a)) | false ↦ λ a. absurd (omega (arith, a)) ]) w
 
-  pub not_whole : {n : ℕ} (bs : List ℕ) → n ≡ lead (λ b. not (not (P b))) bs → n < length bs → Whole P bs → ⊥
-  not_whole bs e below all = omega (arith, e, lead_twice bs, below, all)
+  -- a test of each byte
+  pub each : {r : Bool} (bs : List ℕ) → r ≡ list_all P bs → Decides r (Whole P bs)
+  each bs e = (λ t. all_whole bs (sym e ∙ t), λ w. e ∙ whole_all bs w)
 
 -- the front that ends at the first byte that passes a test
 module _ (test : ℕ → Bool) where

@@ -1,12 +1,16 @@
 -- What is wrong with the words after a call's name is what is wrong with the line.
 -- For the exits of the call that parses.
-use Rattle.std.proofs.Common.{◌≡◌, ℕ, List, [], ◌∷◌, Err, sym, refl, ◌∙◌, subst, inl, inr, ⊎_elim}
+use Rattle.std.proofs.Common.{◌≡◌, ℕ, List, [], ◌∷◌, Option, Some, Err, sym, refl, ◌∙◌, subst, inl, inr, ⊎_elim}
 use Rattle.script.specs.declared.answer.Reason.{Reason}
 use Rattle.script.specs.declared.answer.Reason.TheVariants.{NotText, UnknownCall, TooFewWords, TooManyWords, NotHexadecimal, OddDigits, NotEightKeys}
 use Rattle.script.specs.declared.call.Verb.{Verb}
 use Rattle.script.specs.declared.call.Verb.TheVariants.{Read as ReadVerb, Keys as KeysVerb}
 use Rattle.script.specs.Words.{Whole, plain, words}
-use Rattle.script.specs.Calls.{name_of, OneWord, ArgumentRead, Argument, Parses}
+use Rattle.script.specs.Calls.{name_of, Named, OneWord, ArgumentRead, Argument, Parses}
+
+-- the call that a word names
+pub names : {name : List ℕ} {o : Option Verb} {v : Verb} → o ≡ Some v → Named name o → name ≡ name_of v
+names {name} is h = subst (λ o. Named name o) is h
 
 -- the name, and then what was found of the rest
 pub after_name : (text : List ℕ) {name : List ℕ} (rest : List ℕ) {ws : List (List ℕ)} (v : Verb) → name ≡ name_of v → words text ≡ name ∷ words rest → words rest ≡ ws → words text ≡ name_of v ∷ ws

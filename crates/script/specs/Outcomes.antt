@@ -9,8 +9,9 @@ use Rattle.wire.specs.Messages.{meaning}
 use Rattle.script.specs.declared.answer.Reason.{Reason}
 use Rattle.script.specs.declared.answer.Reason.TheVariants.{NotText, UnknownCall, TooFewWords, TooManyWords, NotHexadecimal, OddDigits, NotEightKeys}
 use Rattle.script.specs.declared.answer.Answer.{Answer}
-use Rattle.script.specs.declared.answer.Answer.TheVariants.{Heard, Audited, Kept, Refused, Wrong}
+use Rattle.script.specs.declared.answer.Answer.TheVariants.{Heard, Kept, Refused, Wrong}
 use Rattle.script.specs.declared.tally.Tally.{Tally}
+use Rattle.script.specs.Lines.{option_text}
 use Rattle.script.specs.Shown.{shown}
 use Rattle.script.specs.Audits.{audit_text}
 
@@ -35,8 +36,7 @@ refusal_text r = decimal (number_of r) ++ 32 ∷ (name_of r ++ fault_text (fault
 
 -- An answer.
 abbrev pub answer_text : Answer → List ℕ
-answer_text (Heard m) = shown (meaning m)
-answer_text (Audited m a) = shown (meaning m) ++ audit_text a
+answer_text (Heard m a) = shown (meaning m) ++ option_text audit_text a
 answer_text Kept = codes "ok"
 answer_text (Refused r) = codes "refused " ++ refusal_text r
 answer_text (Wrong r) = codes "error " ++ reason_text r
@@ -56,8 +56,7 @@ OneOk t u = (u.ok ≡ t.ok + 1) × (u.refused ≡ t.refused) × (u.wrong ≡ t.w
 
 -- Tally u is tally t with one more answer.
 abbrev pub OneMore : Tally → Answer → Tally → Type 0
-OneMore t (Heard m) u = OneOk t u
-OneMore t (Audited m a) u = OneOk t u
+OneMore t (Heard m a) u = OneOk t u
 OneMore t Kept u = OneOk t u
 OneMore t (Refused r) u = (u.ok ≡ t.ok) × (u.refused ≡ t.refused + 1) × (u.wrong ≡ t.wrong)
 OneMore t (Wrong r) u = (u.ok ≡ t.ok) × (u.refused ≡ t.refused) × (u.wrong ≡ t.wrong + 1)

@@ -2,8 +2,11 @@
 -- A message's meaning decides its text; where its bytes lie does not.
 use Rattle.std.specs.Prelude.{ℕ, List, ◌++◌, codes, decimal}
 use Prim.Native.String.{String}
+use Rattle.wire.specs.declared.kind.Kind.{Kind}
+use Rattle.wire.specs.declared.kind.Kind.TheVariants.{Notify, Suggest, Ack, Proposal, Ready, Change, Deputy, Query, Last, SuggestLast, Init, Echo, Commit}
 use Rattle.wire.specs.declared.message.Entry.{Entry}
 use Rattle.wire.specs.declared.message.Sort.{Sort}
+use Rattle.wire.specs.Kinds.{kind_name}
 use Rattle.wire.specs.Messages.{Msg, Reply, sort_name}
 use Rattle.script.specs.Texts.{field, boards_text, tags_text, entry_text, entries_text, replied_text, payload_text}
 
@@ -12,8 +15,8 @@ abbrev number : String → ℕ → List ℕ
 number name n = field (codes name) (decimal n)
 
 -- The kind's name and the view.
-abbrev pub opening : List ℕ → ℕ → List ℕ
-opening kind v = kind ++ number "view" v
+abbrev pub opening : Kind → ℕ → List ℕ
+opening kind v = kind_name kind ++ number "view" v
 
 -- A board's own tag, and a lone kind's speaker with it.
 abbrev pub own_tag : List ℕ → List ℕ
@@ -47,24 +50,24 @@ abbrev pub content_text : ℕ → ℕ → Sort → List ℕ → List ℕ
 content_text s n k p = number "sender" s ++ (number "number" n ++ (field (codes "sort") (sort_name k) ++ payload_text p))
 
 -- Rank, and rank and change.
-abbrev pub ranked : List ℕ → ℕ → ℕ → List ℕ
+abbrev pub ranked : Kind → ℕ → ℕ → List ℕ
 ranked kind v r = opening kind v ++ number "rank" r
 
-abbrev pub graded : List ℕ → ℕ → ℕ → ℕ → List ℕ
+abbrev pub graded : Kind → ℕ → ℕ → ℕ → List ℕ
 graded kind v r c = ranked kind v r ++ number "change" c
 
 -- The thirteen kinds.
 abbrev pub shown : Msg → List ℕ
-shown (Msg.notify v c s t) = opening (codes "notify") v ++ (number "change" c ++ spoken s t)
-shown (Msg.suggest v c s t) = opening (codes "suggest") v ++ (number "change" c ++ gathered s t)
-shown (Msg.ack v r c s t) = graded (codes "ack") v r c ++ spoken s t
-shown (Msg.proposal v r c s t) = graded (codes "proposal") v r c ++ gathered s t
-shown (Msg.ready v r c s t) = graded (codes "ready") v r c ++ spoken s t
-shown (Msg.change v r c s t) = graded (codes "change") v r c ++ gathered s t
-shown (Msg.deputy v r s t) = ranked (codes "deputy") v r ++ spoken s t
-shown (Msg.query v r s t) = ranked (codes "query") v r ++ gathered s t
-shown (Msg.last v r s e p a) = ranked (codes "last") v r ++ (reply_text s e ++ proof_text p a)
-shown (Msg.suggest_last v r s es p a) = ranked (codes "suggest-last") v r ++ (replies_text s es ++ proof_text p a)
-shown (Msg.init v s n k p t) = opening (codes "init") v ++ (content_text s n k p ++ own_tag t)
-shown (Msg.echo v s n k p b t) = opening (codes "echo") v ++ (content_text s n k p ++ spoken b t)
-shown (Msg.commit v s n k p b t) = opening (codes "commit") v ++ (content_text s n k p ++ gathered b t)
+shown (Msg.notify v c s t) = opening Notify v ++ (number "change" c ++ spoken s t)
+shown (Msg.suggest v c s t) = opening Suggest v ++ (number "change" c ++ gathered s t)
+shown (Msg.ack v r c s t) = graded Ack v r c ++ spoken s t
+shown (Msg.proposal v r c s t) = graded Proposal v r c ++ gathered s t
+shown (Msg.ready v r c s t) = graded Ready v r c ++ spoken s t
+shown (Msg.change v r c s t) = graded Change v r c ++ gathered s t
+shown (Msg.deputy v r s t) = ranked Deputy v r ++ spoken s t
+shown (Msg.query v r s t) = ranked Query v r ++ gathered s t
+shown (Msg.last v r s e p a) = ranked Last v r ++ (reply_text s e ++ proof_text p a)
+shown (Msg.suggest_last v r s es p a) = ranked SuggestLast v r ++ (replies_text s es ++ proof_text p a)
+shown (Msg.init v s n k p t) = opening Init v ++ (content_text s n k p ++ own_tag t)
+shown (Msg.echo v s n k p b t) = opening Echo v ++ (content_text s n k p ++ spoken b t)
+shown (Msg.commit v s n k p b t) = opening Commit v ++ (content_text s n k p ++ gathered b t)

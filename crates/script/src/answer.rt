@@ -27,8 +27,7 @@ pub enum Reason {
 // What a line of the script is answered. No Result: three kinds of answers are counted apart, and none of them is passed on by `?`.
 #[derive(Clone, Copy)]
 pub enum Answer<'a> {
-    Heard(Message<'a>),
-    Audited(Message<'a>, Audit),
+    Heard(Message<'a>, Option<Audit>),
     Kept,
     Refused(Refusal),
     Wrong(Reason),
@@ -74,8 +73,7 @@ impl Text for Answer<'_> {
 
     fn write(&self, line: &mut Vec<u8>) -> Result<(), AllocError> {
         match *self {
-            Answer::Heard(message) => message.write(line),
-            Answer::Audited(message, audit) => (message, audit).write(line),
+            Answer::Heard(message, audit) => (message, audit).write(line),
             Answer::Kept => "ok".write(line),
             Answer::Refused(refusal) => ("refused ", refusal).write(line),
             Answer::Wrong(reason) => ("error ", reason.name()).write(line),

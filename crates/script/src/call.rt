@@ -4,7 +4,7 @@ ghost use Rattle.script.specs.Words.{body};
 ghost use Rattle.script.specs.Calls.{Named, OneWord, ArgumentRead, ArgumentKeys, Parses};
 
 use crate::answer::Reason;
-use crate::words::{body, front, is_text, next_word};
+use crate::words::{body, is_text, next_word};
 
 // A call: `read` has the hexadecimal digits of the bytes to read, `keys` those of the eight boards' keys.
 #[derive(Clone, Copy, PartialEq, Eq)]
@@ -13,7 +13,7 @@ pub enum Call<'a> {
     Keys(&'a [u8]),
 }
 
-// The names of calls.
+// The names of calls. Apart from `Call`: the one word after a name is asked for before it is read, in the same way for each name.
 #[derive(Clone, Copy, PartialEq, Eq)]
 pub(crate) enum Verb {
     Read,
@@ -24,12 +24,10 @@ pub(crate) enum Verb {
 fn named(word: &[u8]) -> Option<Verb>
     ensures { Named word.now result }
 {
-    if word == b"read".as_slice() {
-        Some(Verb::Read)
-    } else if word == b"keys".as_slice() {
-        Some(Verb::Keys)
-    } else {
-        None
+    match word {
+        b"read" => Some(Verb::Read),
+        b"keys" => Some(Verb::Keys),
+        _ => None,
     }
 }
 
@@ -51,7 +49,7 @@ fn digits(word: &[u8]) -> Result<&[u8], Reason>
     if word == b"-".as_slice() {
         return Ok(&word[..0]);
     }
-    if front(word, |b| !b.is_ascii_hexdigit()) < word.len() {
+    if !word.iter().all(|b| b.is_ascii_hexdigit()) {
         return Err(Reason::NotHexadecimal);
     }
     if word.len() % 2 == 1 {
@@ -82,10 +80,7 @@ fn said(text: &[u8]) -> Result<Option<Call<'_>>, Reason>
     let Some((name, rest)) = next_word(text) else {
         return Ok(None);
     };
-    // Not `ok_or`: its Err would have to be traced back to `None` by hand.
-    let Some(verb) = named(name) else {
-        return Err(Reason::UnknownCall);
-    };
+    let verb = named(name).ok_or(Reason::UnknownCall)?;
     let word = one_word(rest)?;
     match verb {
         Verb::Read => Ok(Some(Call::Read(digits(word)?))),

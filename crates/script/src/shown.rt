@@ -1,8 +1,7 @@
 // A message as the rest of an answer line: its kind's name, then its fields in the order of the kind.
 // The texts: specs/Shown.antt, of what the message means; where its bytes lie makes no difference.
-ghost use Rattle.std.specs.Prelude.{◌≡◌};
 ghost use Rattle.boards.specs.Boards.{only};
-ghost use Rattle.wire.specs.Messages.{meaning, replies_by, sort_name, tags_by, tags_of};
+ghost use Rattle.wire.specs.Messages.{meaning, replies_by, tags_by, tags_of};
 ghost use Rattle.script.specs.Shown.{opening, ranked, graded, own_tag, spoken, reply_text, reply_of, gathered, proof_text, replies_text, content_text, shown};
 
 use crate::line::{Field, Text};
@@ -10,26 +9,27 @@ use crate::lists::{Boards, EntriesOf, TagsOf};
 use crate::numbers::Payload;
 use boards::Set;
 use std::alloc::AllocError;
-use wire::message::{Content, Entry, Message, Replies, Sort, Tagged, Tags};
+use wire::kind::Kind;
+use wire::message::{Content, Entry, Message, Replies, Tagged, Tags};
 
 // The kind's name and the view.
 #[derive(Clone, Copy)]
-struct Opening<'a>(&'a str, u8);
+struct Opening(Kind, u8);
 
-impl Text for Opening<'_> {
-    ghost text = { λ o. opening o.0.now o.1 };
+impl Text for Opening {
+    ghost text = { λ o. opening o.0 o.1 };
 
     fn write(&self, line: &mut Vec<u8>) -> Result<(), AllocError> {
-        (self.0, Field("view", self.1)).write(line)
+        (self.0.name(), Field("view", self.1)).write(line)
     }
 }
 
 // The kind's name, view and rank.
 #[derive(Clone, Copy)]
-struct Ranked<'a>(&'a str, u8, u8);
+struct Ranked(Kind, u8, u8);
 
-impl Text for Ranked<'_> {
-    ghost text = { λ r. ranked r.0.now r.1 r.2 };
+impl Text for Ranked {
+    ghost text = { λ r. ranked r.0 r.1 r.2 };
 
     fn write(&self, line: &mut Vec<u8>) -> Result<(), AllocError> {
         (Opening(self.0, self.1), Field("rank", self.2)).write(line)
@@ -38,10 +38,10 @@ impl Text for Ranked<'_> {
 
 // The kind's name, view, rank and change.
 #[derive(Clone, Copy)]
-struct Graded<'a>(&'a str, u8, u8, u8);
+struct Graded(Kind, u8, u8, u8);
 
-impl Text for Graded<'_> {
-    ghost text = { λ g. graded g.0.now g.1 g.2 g.3 };
+impl Text for Graded {
+    ghost text = { λ g. graded g.0 g.1 g.2 g.3 };
 
     fn write(&self, line: &mut Vec<u8>) -> Result<(), AllocError> {
         (Ranked(self.0, self.1, self.2), Field("change", self.3)).write(line)
@@ -136,16 +136,6 @@ impl Text for Replies<'_> {
     }
 }
 
-// The name of a sort, which `Display` of the wire would give with an Err of its own.
-fn name(sort: Sort) -> &'static str
-    ensures { result.now ≡ sort_name sort }
-{
-    match sort {
-        Sort::Report => "report",
-        Sort::End => "end",
-    }
-}
-
 // What a sender's message carries.
 impl Text for Content<'_> {
     ghost text = { λ c. content_text c.sender c.number c.sort c.payload.now };
@@ -155,7 +145,7 @@ impl Text for Content<'_> {
             Field("sender", self.sender),
             (
                 Field("number", self.number),
-                (Field("sort", name(self.sort)), Payload(self.payload)),
+                (Field("sort", self.sort.name()), Payload(self.payload)),
             ),
         )
             .write(line)
@@ -174,14 +164,14 @@ impl Text for Message<'_> {
                 tag,
             } => {
                 (
-                    Opening("notify", view),
+                    Opening(Kind::Notify, view),
                     (Field("change", change), Spoken(speaker, tag)),
                 )
                     .write(line)
             }
             Message::Suggest { view, change, by } => {
                 (
-                    Opening("suggest", view),
+                    Opening(Kind::Suggest, view),
                     (Field("change", change), Gathered(by)),
                 )
                     .write(line)
@@ -192,34 +182,40 @@ impl Text for Message<'_> {
                 change,
                 speaker,
                 tag,
-            } => { (Graded("ack", view, rank, change), Spoken(speaker, tag)).write(line) }
+            } => { (Graded(Kind::Ack, view, rank, change), Spoken(speaker, tag)).write(line) }
             Message::Proposal {
                 view,
                 rank,
                 change,
                 by,
-            } => { (Graded("proposal", view, rank, change), Gathered(by)).write(line) }
+            } => { (Graded(Kind::Proposal, view, rank, change), Gathered(by)).write(line) }
             Message::Ready {
                 view,
                 rank,
                 change,
                 speaker,
                 tag,
-            } => { (Graded("ready", view, rank, change), Spoken(speaker, tag)).write(line) }
+            } => {
+                (
+                    Graded(Kind::Ready, view, rank, change),
+                    Spoken(speaker, tag),
+                )
+                    .write(line)
+            }
             Message::Change {
                 view,
                 rank,
                 change,
                 by,
-            } => { (Graded("change", view, rank, change), Gathered(by)).write(line) }
+            } => { (Graded(Kind::Change, view, rank, change), Gathered(by)).write(line) }
             Message::Deputy {
                 view,
                 rank,
                 speaker,
                 tag,
-            } => { (Ranked("deputy", view, rank), Spoken(speaker, tag)).write(line) }
+            } => { (Ranked(Kind::Deputy, view, rank), Spoken(speaker, tag)).write(line) }
             Message::Query { view, rank, by } => {
-                (Ranked("query", view, rank), Gathered(by)).write(line)
+                (Ranked(Kind::Query, view, rank), Gathered(by)).write(line)
             }
             Message::Last {
                 view,
@@ -230,7 +226,7 @@ impl Text for Message<'_> {
                 proof,
             } => {
                 (
-                    Ranked("last", view, rank),
+                    Ranked(Kind::Last, view, rank),
                     (Reply(speaker, entry, tag), Proof(proof)),
                 )
                     .write(line)
@@ -240,10 +236,16 @@ impl Text for Message<'_> {
                 rank,
                 replies,
                 proof,
-            } => { (Ranked("suggest-last", view, rank), (replies, Proof(proof))).write(line) }
+            } => {
+                (
+                    Ranked(Kind::SuggestLast, view, rank),
+                    (replies, Proof(proof)),
+                )
+                    .write(line)
+            }
             Message::Init { view, content, tag } => {
                 (
-                    Opening("init", view),
+                    Opening(Kind::Init, view),
                     (content, OwnTag(content.sender, tag)),
                 )
                     .write(line)
@@ -253,9 +255,9 @@ impl Text for Message<'_> {
                 content,
                 speaker,
                 tag,
-            } => { (Opening("echo", view), (content, Spoken(speaker, tag))).write(line) }
+            } => { (Opening(Kind::Echo, view), (content, Spoken(speaker, tag))).write(line) }
             Message::Commit { view, content, by } => {
-                (Opening("commit", view), (content, Gathered(by))).write(line)
+                (Opening(Kind::Commit, view), (content, Gathered(by))).write(line)
             }
         }
     }

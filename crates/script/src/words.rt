@@ -18,7 +18,7 @@ fn is_plain(b: u8) -> bool
 }
 
 // How many bytes stand before the first at which a test says that they end.
-pub(crate) fn front<F: Fn(u8) -> bool>(bytes: &[u8], ends: F) -> usize
+fn front<F: Fn(u8) -> bool>(bytes: &[u8], ends: F) -> usize
     requires { F.IsAlwaysCallable ends }
     ensures is { (test : ℕ → Bool) → ((b : ℕ) (r : Bool) → F.post ends b r → r ≡ test b) → result ≡ lead (λ b. not (test b)) bytes.now }
     ensures within { result ≤ length bytes.now }
@@ -30,7 +30,7 @@ pub(crate) fn front<F: Fn(u8) -> bool>(bytes: &[u8], ends: F) -> usize
 pub(crate) fn is_text(bytes: &[u8]) -> bool
     ensures { Decides result (Whole plain bytes.now) }
 {
-    front(bytes, |b| !is_plain(b)) == bytes.len()
+    bytes.iter().all(|b| is_plain(*b))
 }
 
 // The line without a carriage return at its end.

@@ -1,11 +1,12 @@
--- All are text where the front is all of them.
--- The laws are in Fronts.
-use Rattle.std.proofs.Common.{not, ◌∙◌, rules}
+-- All are text where each byte is.
+-- The law is in Fronts.
+use Rattle.std.proofs.Common.{rules}
+use Rattle.std.proofs.lemmas.Iterator.{YieldsList-from_slice}
+use Rattle.std.proofs.lemmas.Iterator.Search.{all_from_yields_List}
+use borrow.Author.Tests.{tests}
 use Rattle.script.specs.Words.{plain}
-use Rattle.script.proofs.Fronts.{lead_twice}
+use Rattle.script.proofs.Fronts.{each}
 use Rattle.script.proofs.words.is_text.Goals as goal
 
 pub returns : goal.returns
-returns c =
-    let at = c.front.ensures.is (λ b. not (plain b)) (λ b r k. search rules) ∙ lead_twice plain c.args.bytes.now in
-    search rules
+returns c = each plain c.args.bytes.now (all_from_yields_List plain _ _ c.all.result c.all.ensures.ran (YieldsList-from_slice c.args.bytes.now c.iter.ensures.rest) (λ x r q k. search (rules, tests)))
