@@ -30,10 +30,11 @@ pub record Longer (a : Head) (w v : ℕ) (allowed : Bool) (b : Head) : Type 0 wh
   pub fits : v < 2 ^ w
   pub good : allowed ≡ true
 
--- Head a with one more field of value v; none if the value is not allowed or too large for the field, or there is no room for it.
+-- Head a with one more field of value v; none if the value is not allowed or too large for the field, and none without room for it.
 pub record Joined (a : Head) (w v : ℕ) (allowed : Bool) (r : Option Head) : Type 0 where
   pub longer : (b : Head) → r ≡ Some b → Longer a w v allowed b
   pub none : r ≡ None → Room a w → (allowed && nat_lt v (2 ^ w)) ≡ false
+  pub full : (Room a w → ⊥) → r ≡ None
 
 -- The empty head has no bit.
 abbrev pub Empty : Head → Type 0
