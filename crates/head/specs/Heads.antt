@@ -36,10 +36,6 @@ pub record Joined (a : Head) (w v : ℕ) (allowed : Bool) (r : Option Head) : Ty
   pub none : r ≡ None → Room a w → (allowed && nat_lt v (2 ^ w)) ≡ false
   pub full : (Room a w → ⊥) → r ≡ None
 
--- The empty head has no bit.
-abbrev pub Empty : Head → Type 0
-Empty a = a.width ≡ 0
-
 -- The four bytes of a head: its fields, and zeros after them.
 pub record BytesOf (a : Head) (bs : List ℕ) : Type 0 where
   pub form : bits bs ≡ bits_of a.width a.number ++ bits_of (32 - a.width) 0

@@ -2,21 +2,17 @@
 // Every value is taken; there is no head with one that its field may not have.
 ghost use Rattle.std.specs.Prelude.{true};
 ghost use Rattle.grammar.specs.Grammar.{from_to};
-ghost use Rattle.head.specs.Heads.{BytesOf, Empty, Four, Joined, Raised};
+ghost use Rattle.head.specs.Heads.{BytesOf, Four, Joined, Raised};
 
 use crate::number::Head;
 
-// A head with no field.
-pub fn empty() -> Head
-    ensures { Empty result }
-{
-    Head {
+impl Head {
+    // A head with no field.
+    pub const EMPTY: Head = Head {
         number: 0,
         width: 0,
-    }
-}
+    };
 
-impl Head {
     // One more field of at most 8 bits; none if it is too narrow for the value, or there is no room for it.
     pub fn field(self, width: u8, value: usize) -> Option<Head>
         ensures { Joined self width value true result }
