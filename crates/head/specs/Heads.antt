@@ -44,8 +44,3 @@ pub record BytesOf (a : Head) (bs : List ℕ) : Type 0 where
 -- The number of a head moved up to the top of 32 bits.
 abbrev pub Raised : Head → ℕ → Type 0
 Raised a x = bits_of 32 x ≡ bits_of a.width a.number ++ bits_of (32 - a.width) 0
-
--- The four bytes of a number.
-pub record Four (x : ℕ) (bs : List ℕ) : Type 0 where
-  pub form : bits bs ≡ bits_of 32 x
-  pub fit : AllByRecursion (λ x. x < 256) bs
