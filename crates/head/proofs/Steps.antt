@@ -9,7 +9,7 @@ use Rattle.grammar.proofs.Cuts.{spell_append}
 use Rattle.grammar.proofs.Held.{held, onward, rest_after, front_after}
 use Rattle.wire.proofs.Widths.{wide, length_spell}
 use Rattle.head.specs.declared.number.Head.{Head}
-use Rattle.head.specs.Heads.{Barred, Begins, Empty, Holds, Joined, Longer, Room}
+use Rattle.head.specs.Heads.{Barred, Begins, Holds, Joined, Longer, Room}
 use Rattle.head.specs.Shapes.{Opens}
 use Rattle.head.proofs.Joins.{spell_num}
 
@@ -25,7 +25,7 @@ pub barred_more : {g : Grammar} {is : List Item} (js : List Item) → Barred g i
 barred_more {g} {is} js b any q = let r = front_after g is js any q in b r.0 r.1
 
 -- With no field yet, what any grammar begins with may follow.
-pub nothing : (g : Grammar) (a : Head) → Empty a → Holds g a [] g
+pub nothing : (g : Grammar) (a : Head) → a.width ≡ 0 → Holds g a [] g
 unfolding bits_of spell
 nothing g a e = let z : 0 ≡ a.width = sym e in record { form = subst (λ w. bits_of w a.number ≡ []) z refl; goes = After.start }
 

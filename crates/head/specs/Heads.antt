@@ -30,14 +30,11 @@ pub record Longer (a : Head) (w v : ℕ) (allowed : Bool) (b : Head) : Type 0 wh
   pub fits : v < 2 ^ w
   pub good : allowed ≡ true
 
--- Head a with one more field of value v; none if the value is not allowed or too large for the field, or there is no room for it.
+-- Head a with one more field of value v; none if the value is not allowed or too large for the field, and none without room for it.
 pub record Joined (a : Head) (w v : ℕ) (allowed : Bool) (r : Option Head) : Type 0 where
   pub longer : (b : Head) → r ≡ Some b → Longer a w v allowed b
   pub none : r ≡ None → Room a w → (allowed && nat_lt v (2 ^ w)) ≡ false
-
--- The empty head has no bit.
-abbrev pub Empty : Head → Type 0
-Empty a = a.width ≡ 0
+  pub full : (Room a w → ⊥) → r ≡ None
 
 -- The four bytes of a head: its fields, and zeros after them.
 pub record BytesOf (a : Head) (bs : List ℕ) : Type 0 where
@@ -47,8 +44,3 @@ pub record BytesOf (a : Head) (bs : List ℕ) : Type 0 where
 -- The number of a head moved up to the top of 32 bits.
 abbrev pub Raised : Head → ℕ → Type 0
 Raised a x = bits_of 32 x ≡ bits_of a.width a.number ++ bits_of (32 - a.width) 0
-
--- The four bytes of a number.
-pub record Four (x : ℕ) (bs : List ℕ) : Type 0 where
-  pub form : bits bs ≡ bits_of 32 x
-  pub fit : AllByRecursion (λ x. x < 256) bs

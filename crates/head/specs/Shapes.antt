@@ -1,6 +1,6 @@
 -- What kinds open with: the fields after kind and view, for any table of what may follow these.
 -- Messages have such a table and signed words another; where both have a shape of head, both have it from here.
-use Rattle.std.specs.Prelude.{◌≡◌, ℕ, Bool, true, cond, List, [], ◌∷◌, ◌++◌, length, Option, ◌==◌}
+use Rattle.std.specs.Prelude.{◌≡◌, ℕ, Bool, true, cond, List, [], ◌∷◌, ◌++◌, length, None, Option, ◌==◌}
 use Rattle.grammar.specs.Grammar.{Grammar, Item, from_to}
 use Rattle.wire.specs.declared.message.Content.{Content}
 use Rattle.wire.specs.declared.message.Entry.{Entry}
@@ -53,9 +53,10 @@ entry_byte k = Grammar.field 4 (from_to 0 8) (λ e. zeros 1 (Grammar.field 3 (fr
 abbrev pub entry_values : Entry → List Item
 entry_values e = Item.num 4 e.earlier ∷ Item.num 1 0 ∷ Item.num 3 e.change ∷ []
 
--- An entry behind the fields of a head that has room for it, in any grammar that allows one there.
+-- An entry behind the fields of a head, in any grammar that allows one there; none without room for it.
 pub record Entered (a : Head) (e : Entry) (r : Option Head) : Type 0 where
   pub begins : (g : Grammar) (is : List Item) (k : ℕ → Grammar) → Room a 8 → Holds g a is (entry_byte k) → Begins g (is ++ entry_values e) (k e.earlier) r
+  pub full : (Room a 8 → ⊥) → r ≡ None
 
 -- The least and the greatest length of a payload of a sort.
 pub record Lengths (s : Sort) (r : ℕ × ℕ) : Type 0 where

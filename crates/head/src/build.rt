@@ -2,21 +2,17 @@
 // Every value is taken; there is no head with one that its field may not have.
 ghost use Rattle.std.specs.Prelude.{true};
 ghost use Rattle.grammar.specs.Grammar.{from_to};
-ghost use Rattle.head.specs.Heads.{BytesOf, Empty, Four, Joined, Raised};
+ghost use Rattle.head.specs.Heads.{BytesOf, Joined, Raised};
 
 use crate::number::Head;
 
-// A head with no field.
-pub fn empty() -> Head
-    ensures { Empty result }
-{
-    Head {
+impl Head {
+    // A head with no field.
+    pub const EMPTY: Head = Head {
         number: 0,
         width: 0,
-    }
-}
+    };
 
-impl Head {
     // One more field of at most 8 bits; none if it is too narrow for the value, or there is no room for it.
     pub fn field(self, width: u8, value: usize) -> Option<Head>
         ensures { Joined self width value true result }
@@ -32,6 +28,7 @@ impl Head {
 
     // One more field, whose value may be `least` to `most`.
     // Two numbers and no range: the library's also says whether it was gone through, which the contract would have to speak of.
+    // Numbers: the fields that have names are crate reader's own, and a table for both would have to stand below, in crate wire.
     pub fn with(self, width: u8, value: usize, least: usize, most: usize) -> Option<Head>
         ensures { Joined self width value (from_to least most value) result }
     {
@@ -46,7 +43,7 @@ impl Head {
     pub fn bytes(self) -> [u8; 4]
         ensures { BytesOf self result }
     {
-        four(self.raised())
+        self.raised().to_be_bytes()
     }
 
     // The number with its first field on top of 32 bits.
@@ -59,11 +56,4 @@ impl Head {
             self.number << (32 - self.width)
         }
     }
-}
-
-// The four bytes of a number.
-fn four(x: u32) -> [u8; 4]
-    ensures { Four x result }
-{
-    x.to_be_bytes()
 }

@@ -5,7 +5,6 @@ ghost use Rattle.wire.specs.Kinds.{kind_number};
 ghost use Rattle.wire.specs.Messages.{sort_number};
 ghost use Rattle.head.specs.Shapes.{Opened, Noted, Graded, Ranked, Carried, Entered, Lengths, most_change};
 
-use crate::build::empty;
 use crate::number::Head;
 use wire::kind::Kind;
 use wire::message::{Content, Entry, Sort};
@@ -14,7 +13,7 @@ use wire::message::{Content, Entry, Sort};
 fn opening(kind: Kind, view: u8) -> Option<Head>
     ensures { Opened (kind_number kind) view result }
 {
-    empty()
+    Head::EMPTY
         .field(4, of_kind(kind))?
         .with(8, view as usize, 1, 64)
 }
@@ -72,12 +71,14 @@ pub fn most_change(earlier: u8) -> u8
     if earlier == 0 { 0 } else { 7 }
 }
 
+// A function: where the cast is an argument the proof does not know it as the kind's number, and would go through all 13 kinds.
 fn of_kind(kind: Kind) -> usize
     ensures { result ≡ kind_number kind }
 {
     kind as usize
 }
 
+// A function for the same reason.
 fn of_sort(sort: Sort) -> usize
     ensures { result ≡ sort_number sort }
 {

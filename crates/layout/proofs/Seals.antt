@@ -1,11 +1,11 @@
 -- A set and its tags at the end of a message.
 -- With them the fields are a message's, if tags and set are as the format wants; else no message's.
-use Rattle.std.proofs.Common.{◌≡◌, ℕ, ◌*◌, ◌<◌, ◌≤◌, Bool, true, false, eqb, List, [], ◌∷◌, ◌++◌, length, None, Option, sym, ap, ◌∙◌, subst, arith, length-append}
+use Rattle.std.proofs.Common.{◌≡◌, ℕ, zero, suc, ◌*◌, ◌<◌, ◌≤◌, Bool, true, false, eqb, List, [], ◌∷◌, ◌++◌, length, None, Option, sym, ap, ◌∙◌, subst, arith, length-append}
 use Rattle.std.proofs.ByRecursion.{All-append}
-use Rattle.std.proofs.lemmas.Bool.{both_ways, eq-eqb}
+use Rattle.std.proofs.lemmas.Bool.{both_ways, eq-eqb, ne_eqb}
 use Rattle.boards.specs.Boards.{size, only}
 use Rattle.boards.proofs.Members.{only_above}
-use Rattle.boards.proofs.Sets.{size_le, size_only, size_none}
+use Rattle.boards.proofs.Sets.{size_le, size_only, size_none, size_zero}
 use Rattle.grammar.specs.Bits.{bits}
 use Rattle.grammar.specs.Grammar.{Grammar, Item, After, spell}
 use Rattle.grammar.proofs.Bits.{bits_append}
@@ -64,3 +64,8 @@ lone_below b h = eq-eqb _ _ (size_only b h)
 pub lone_above : (b : ℕ) → 8 ≤ b → lone (only b) ≡ false
 unfolding lone
 lone_above b h = ap (λ s. eqb (size s) 1) (only_above b h) ∙ ap (λ n. eqb n 1) size_none
+
+-- a set of no boards is 0
+pub boardless : (s : ℕ) → s < 256 → eqb (size s) 0 ≡ eqb s 0
+boardless zero h = ap (λ n. eqb n 0) size_none
+boardless (suc s) h = ne_eqb _ _ (λ z. let e : suc s ≡ 0 = size_zero (suc s) h z in cc) ∙ sym (ne_eqb (suc s) 0 (λ z. cc))

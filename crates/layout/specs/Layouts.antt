@@ -1,6 +1,6 @@
 -- The bytes of a layout, and when it is the layout of a message.
 -- Fields of a message are items in the order in which they are written; their bytes are `packed`.
-use Rattle.std.specs.Prelude.{◌≡◌, ℕ, ◌+◌, ◌*◌, ◌/◌, ◌%◌, ◌<◌, ◌≤◌, Bool, true, false, List, [], ◌∷◌, ◌++◌, length, Some, None, Option}
+use Rattle.std.specs.Prelude.{◌≡◌, ℕ, ◌*◌, ◌/◌, ◌%◌, ◌<◌, ◌≤◌, Bool, true, false, List, [], ◌∷◌, ◌++◌, length, Some, None, Option}
 use Rattle.std.specs.Borrow.{Bor}
 use Rattle.boards.specs.Boards.{size, only}
 use Rattle.grammar.specs.Bits.{bits, bits_of, bytes_of}

@@ -16,6 +16,7 @@ pub(crate) fn gather<'a>(replies: Replies<'a>) -> Option<Gathered<'a>>
     if !even(replies) {
         return None;
     }
+    // Tried as `filter_map` and `try_fold`, and the proof was left open: what has passed is told by board number, which the chain drops.
     let mut top: u8 = 0;
     for board in 0..8 {
         if let Some((entry, _)) = reply(replies, board) {

@@ -5,7 +5,7 @@ ghost use Rattle.layout.specs.Measures.{Bytes, Measured};
 
 use wire::message::{Tagged, Tags};
 
-// How many bytes there are; of a slice that is a parameter the proof knows that they are bytes.
+// How many bytes there are. Tried without: of a slice that is a parameter the proof knows that they are bytes, of one in a variant it does not.
 pub(crate) fn count(bytes: &[u8]) -> usize
     ensures { (result ≡ length bytes.now) × Bytes bytes.now }
 {

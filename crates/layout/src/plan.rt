@@ -29,6 +29,7 @@ pub struct Front<'a> {
     pub middle: Middle<'a>,
 }
 
+// That the head is whole bytes is no ghost field: `sealed` cannot know it of just any front, and a function that makes one would have to ask it of its head.
 #[derive(Clone, Copy)]
 pub struct Layout<'a> {
     pub front: Front<'a>,

@@ -52,5 +52,5 @@ impl<'a> Front<'a> {
 fn called_for(top: u8, proof: Set) -> bool
     ensures { result ≡ from_to (if nat_eq top 0 then 0 else 1) (if nat_eq top 0 then 0 else 255) proof.bits }
 {
-    (proof.bits == 0) == (top == 0)
+    proof.is_empty() == (top == 0)
 }

@@ -13,7 +13,7 @@ use Rattle.wire.specs.Fields.{zeros, rank, change, graded, carried, lone_tag, ow
 use Rattle.wire.specs.Messages.{Reply, reply_at, tags_of, tags_by, replies_of, replies_by}
 use Rattle.wire.specs.Format.{graded_values, content_values, set_values, reply_values, replies_values}
 use Rattle.reader.specs.declared.place.Reader.{Reader}
-use Rattle.reader.specs.declared.place.Whole.{Whole}
+use Rattle.reader.specs.declared.place.At.{At}
 use Rattle.reader.specs.declared.heads.Graded.{Graded}
 use Rattle.reader.specs.declared.parts.Answer.{Answer}
 use Rattle.reader.specs.declared.parts.Spoken.{Spoken}
@@ -28,29 +28,29 @@ pub record PassedBy (F : (ℕ → Grammar) → Grammar) (x : ℕ) (is : List Ite
   pub on : (k : ℕ → Grammar) → met (F k) s ≡ more is (met (k x) t)
 
 -- What was read, with items f, up to where the rest begins.
-abbrev pub PartOf : {X : Type 0} → (Grammar → Grammar) → (X → List Item) → Reader → Result (X × Whole) Fault → Type 0
+abbrev pub PartOf : {X : Type 0} → (Grammar → Grammar) → (X → List Item) → Reader → Result (X × At 0) Fault → Type 0
 PartOf F f s (Ok x) = Passed F (f x.0) s x.1.reader
 PartOf F f s (Err e) = (k : Grammar) → met (F k) s ≡ Err e
 
 -- The same where what comes after it may depend on a number n of it.
-abbrev pub PartBy : {X : Type 0} → ((ℕ → Grammar) → Grammar) → (X → ℕ) → (X → List Item) → Reader → Result (X × Whole) Fault → Type 0
+abbrev pub PartBy : {X : Type 0} → ((ℕ → Grammar) → Grammar) → (X → ℕ) → (X → List Item) → Reader → Result (X × At 0) Fault → Type 0
 PartBy F n f s (Ok x) = PassedBy F (n x.0) (f x.0) s x.1.reader
 PartBy F n f s (Err e) = (k : ℕ → Grammar) → met (F k) s ≡ Err e
 
 -- The rest of a head in kinds 1 and 2: a 0 bit and the change.
-abbrev pub ChangeRead : Reader → Result (ℕ × Whole) Fault → Type 0
+abbrev pub ChangeRead : Reader → Result (ℕ × At 0) Fault → Type 0
 ChangeRead s r = PartOf (λ k. zeros 1 (change k)) (λ c. Item.num 1 0 ∷ Item.num 3 c ∷ []) s r
 
 -- In kinds 3 to 6: rank and change.
-abbrev pub GradedRead : Reader → Result (Graded × Whole) Fault → Type 0
+abbrev pub GradedRead : Reader → Result (Graded × At 0) Fault → Type 0
 GradedRead s r = PartOf graded (λ x. graded_values x.rank x.change []) s r
 
 -- In kinds 7 to 10: the rank.
-abbrev pub RankRead : Reader → Result (ℕ × Whole) Fault → Type 0
+abbrev pub RankRead : Reader → Result (ℕ × At 0) Fault → Type 0
 RankRead s r = PartOf rank (λ n. Item.num 4 n ∷ []) s r
 
 -- In kinds 11 to 13: what they carry.
-abbrev pub CarriedRead : Reader → Result (Content × Whole) Fault → Type 0
+abbrev pub CarriedRead : Reader → Result (Content × At 0) Fault → Type 0
 CarriedRead s r = PartBy carried (λ x. x.sender) (λ x. content_values x.sender x.number x.sort x.payload.now []) s r
 
 -- A reply as read.
@@ -69,7 +69,7 @@ pub record Entered (x : Answer) (s t : Reader) : Type 0 where
   pub moved : t.byte ≡ s.byte + 9
 
 -- An entry and its tag.
-abbrev pub AnswerRead : Reader → Result (Answer × Whole) Fault → Type 0
+abbrev pub AnswerRead : Reader → Result (Answer × At 0) Fault → Type 0
 AnswerRead s (Ok x) = Entered x.0 s x.1.reader
 AnswerRead s (Err f) = (k : ℕ → Grammar) → met (entered k) s ≡ Err f
 
@@ -78,7 +78,7 @@ pub record All (n : ℕ) (es : Entries) (top : ℕ) (s t : Reader) : Type 0 wher
   pub on : (b : ℕ) (k : ℕ → Grammar) → met (entries n 0 k) s ≡ more (replies_values (replies_of b es)) (met (k top) t)
 
 -- Entries of n boards, with their tags.
-abbrev pub EntriesRead : ℕ → Reader → Result ((Entries × ℕ) × Whole) Fault → Type 0
+abbrev pub EntriesRead : ℕ → Reader → Result ((Entries × ℕ) × At 0) Fault → Type 0
 EntriesRead n s (Ok x) = All n x.0.0 x.0.1 s x.1.reader
 EntriesRead n s (Err f) = (k : ℕ → Grammar) → met (entries n 0 k) s ≡ Err f
 
@@ -87,7 +87,7 @@ abbrev pub replied : (ℕ → Grammar) → Grammar
 replied k = Grammar.field 8 (from_to 0 255) (λ s. entries (size s) 0 k)
 
 -- Any set and the entries of its boards.
-abbrev pub RepliesRead : Reader → Result ((Replies × ℕ) × Whole) Fault → Type 0
+abbrev pub RepliesRead : Reader → Result ((Replies × ℕ) × At 0) Fault → Type 0
 RepliesRead s r = PartBy replied (λ x. x.1) (λ x. Item.num 8 x.0.set.bits ∷ replies_values (replies_by x.0)) s r
 
 -- The items of what was read up to the end of a message, or the fault.

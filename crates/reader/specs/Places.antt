@@ -10,7 +10,7 @@ use Rattle.boards.specs.declared.Set.{Set}
 use Rattle.boards.specs.Boards.{only}
 use Rattle.wire.specs.Fields.{lone}
 use Rattle.reader.specs.declared.place.Reader.{Reader}
-use Rattle.reader.specs.declared.place.Whole.{Whole}
+use Rattle.reader.specs.declared.place.At.{At}
 
 -- The bits before a reader's place.
 abbrev pub at : Reader → ℕ
@@ -85,12 +85,12 @@ ValueRead w a b s (Ok v) t = Read w (from_to a b) s v t
 ValueRead w a b s (Err e) t = Refused w (from_to a b) s e
 
 -- A set whose byte is from a to b.
-abbrev pub SetRead : ℕ → ℕ → Reader → Result (Set × Whole) Fault → Type 0
+abbrev pub SetRead : ℕ → ℕ → Reader → Result (Set × At 0) Fault → Type 0
 SetRead a b s (Ok x) = Read 8 (from_to a b) s x.0.bits x.1.reader
 SetRead a b s (Err e) = Refused 8 (from_to a b) s e
 
 -- A set of just one board, read as the board.
-abbrev pub LoneRead : Reader → Result (ℕ × Whole) Fault → Type 0
+abbrev pub LoneRead : Reader → Result (ℕ × At 0) Fault → Type 0
 LoneRead s (Ok x) = Read 8 lone s (only x.0) x.1.reader
 LoneRead s (Err e) = Refused 8 lone s e
 
@@ -102,7 +102,7 @@ pub record Part (n : ℕ) (s : Reader) (v : Bor (List ℕ)) (t : Reader) : Type 
   pub found : Cut s n v.now t
 
 -- Whole bytes, n of them.
-abbrev pub PartRead : ℕ → Reader → Result (Bor (List ℕ) × Whole) Fault → Type 0
+abbrev pub PartRead : ℕ → Reader → Result (Bor (List ℕ) × At 0) Fault → Type 0
 PartRead n s (Ok x) = Part n s x.0 x.1.reader
 PartRead n s (Err e) = (k : List ℕ → Grammar) → met (Grammar.part n k) s ≡ Err e
 

@@ -14,19 +14,18 @@ pub struct Reader<'a> {
     ghost fit: { (i : ℕ) → slice_index src.now i < 256 },
 }
 
-// Between the halves of a byte, as kind and view leave it.
+// At one bit of a byte, which the type names.
 #[derive(Clone, Copy)]
-pub struct Half<'a> {
+pub struct At<'a, const BIT: u8> {
     pub reader: Reader<'a>,
-    ghost half: { reader.bit ≡ 4 },
+    ghost at: { reader.bit ≡ BIT },
 }
 
+// Between the halves of a byte, as kind and view leave it.
+pub type Half<'a> = At<'a, 4>;
+
 // Between two bytes, as every head leaves it.
-#[derive(Clone, Copy)]
-pub struct Whole<'a> {
-    pub reader: Reader<'a>,
-    ghost whole: { reader.bit ≡ 0 },
-}
+pub type Whole<'a> = At<'a, 0>;
 
 // What was read, and where the rest begins; or why it could not be.
 pub(crate) type Reading<'a, T> = Result<(T, Whole<'a>), Fault>;

@@ -14,6 +14,7 @@ returns-in_err-with c = record {
       let one = step p c.in_err-with.ensures refl (omega arith, omega arith) in
       let rest : List Item = Item.num 1 0 ∷ Item.num 3 e.change ∷ [] in
       subst (λ l. Begins g l (k e.earlier) c.from_residual.result) (simp append_assoc) (no_head c.from_residual.ensures (barred_more rest (one.none refl)));
+  full = λ n. c.from_residual.ensures;
 }
 
 pub returns-in_err-with-2 : goal.returns-in_err-with-2
@@ -24,6 +25,7 @@ returns-in_err-with-2 c = record {
       let two = step one c.in_err-with-2.ensures refl (omega arith, omega (arith, wider (c.in_ok-with.ensures.longer _ refl))) in
       let rest : List Item = Item.num 3 e.change ∷ [] in
       subst (λ l. Begins g l (k e.earlier) c.from_residual-in_err-with-2.result) (simp append_assoc) (no_head c.from_residual-in_err-with-2.ensures (barred_more rest (two.none refl)));
+  full = λ n. c.from_residual-in_err-with-2.ensures;
 }
 
 pub returns : goal.returns
@@ -35,4 +37,5 @@ returns c = record {
       let two = (step one c.in_ok-with-2.ensures refl (omega arith, omega (arith, wide))).holds _ refl in
       let three = step two c.with-3.ensures (λ i. from_to 0 (sym c.most_change-most.ensures i) e.change) (omega arith, omega (arith, wide, wider (c.in_ok-with-2.ensures.longer _ refl))) in
       subst (λ l. Begins g l (k e.earlier) c.with-3.result) (simp append_assoc) three;
+  full = λ n. c.with-3.ensures.full (λ m. n (omega arith, omega (arith, m.1, wider (c.in_ok-with.ensures.longer _ refl), wider (c.in_ok-with-2.ensures.longer _ refl))));
 }

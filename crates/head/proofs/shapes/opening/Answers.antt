@@ -12,7 +12,7 @@ use Rattle.head.proofs.shapes.opening.Goals as goal
 pub returns-in_err-field : goal.returns-in_err-field
 returns-in_err-field c = record {
   begins = λ has body x o e.
-      let kind = step (nothing (table has body) c.empty.result c.empty.ensures) (named c.of_kind.ensures c.in_err-field.ensures) o (omega arith, omega arith) in
+      let kind = step (nothing (table has body) _ refl) (named c.of_kind.ensures c.in_err-field.ensures) o (omega arith, omega arith) in
       no_head c.from_residual.ensures (barred_more (Item.num 8 c.args.view ∷ []) (kind.none refl));
 }
 
@@ -21,6 +21,6 @@ returns c = record {
   begins = λ has body x o e.
       let j = named c.of_kind.ensures c.in_ok-field.ensures in
       let b = c.in_ok-field.field-0 in
-      let kind = (step (nothing (table has body) c.empty.result c.empty.ensures) j o (omega arith, omega arith)).holds b refl in
-      subst (λ g. Begins (table has body) (opening (kind_number c.args.kind) c.args.view []) g c.with.result) e (step kind c.with.ensures refl (omega arith, omega (arith, wider (j.longer b refl), c.empty.ensures)));
+      let kind = (step (nothing (table has body) _ refl) j o (omega arith, omega arith)).holds b refl in
+      subst (λ g. Begins (table has body) (opening (kind_number c.args.kind) c.args.view []) g c.with.result) e (step kind c.with.ensures refl (omega arith, omega (arith, wider (j.longer b refl))));
 }

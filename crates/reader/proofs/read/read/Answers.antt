@@ -1,3 +1,5 @@
+-- What was read of the opening and of the rest is what the whole bytes spell.
+-- A fault of the opening is the message's fault.
 use Rattle.std.proofs.lemmas.Result.{err_from_is_err_and}
 use Rattle.reader.proofs.Finish.{so, finish}
 use Rattle.reader.proofs.read.read.Goals as goal

@@ -44,4 +44,5 @@ returns c =
     record {
       longer = λ b e. subst (Longer g w v true) (same_Some _ b e) (record { form = ap (bits_of (g.width + w)) n ∙ beside g.width w g.number v; fits = fits; good = refl });
       none = λ e. cc;
+      full = λ n. absurd (n (omega arith, omega arith));
     }

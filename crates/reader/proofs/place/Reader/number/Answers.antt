@@ -1,3 +1,5 @@
+-- A field's bits out of the two bytes at the place; a last byte alone is enough where the field ends in it.
+-- Where it ends past the last byte, bits are missing.
 use Rattle.std.proofs.Common.{◌≡◌, ◌+◌, ◌*◌, ◌≤◌, get_or, length, sym, ap, ◌∙◌, arith, add-zero}
 use Rattle.std.proofs.lemmas.List.{get_or_past}
 use Rattle.reader.specs.Places.{src, at}

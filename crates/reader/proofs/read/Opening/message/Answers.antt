@@ -1,3 +1,5 @@
+-- Each kind by its parts, one after another.
+-- A fault in a part is the message's fault.
 use Rattle.std.proofs.Common.{[], ◌∷◌, ap}
 use Rattle.std.proofs.lemmas.Result.{err_from_is_err_and}
 use Rattle.grammar.specs.Grammar.{Grammar, Item, more}

@@ -1,3 +1,5 @@
+-- A set of one board is a byte that the format allows there, and its one board is the answer.
+-- Bits that are missing and sets of other sizes are faults.
 use Rattle.std.proofs.Common.{Some, ◌∙◌, sym, subst, arith}
 use Rattle.std.proofs.lemmas.Result.{err_from_is_err_and}
 use Rattle.std.proofs.lemmas.Bool.{eq-eqb, ne_eqb}
@@ -6,7 +8,7 @@ use Rattle.wire.specs.Fields.{lone}
 use Rattle.reader.specs.Places.{Read}
 use Rattle.reader.proofs.Bridge.{got_on, got_bad, none_left}
 use Rattle.reader.proofs.Lones.{one_board}
-use Rattle.reader.proofs.place.Whole.lone.Goals as goal
+use Rattle.reader.proofs.parts.Whole.lone.Goals as goal
 
 pub returns-in_err-number : goal.returns-in_err-number
 returns-in_err-number c =

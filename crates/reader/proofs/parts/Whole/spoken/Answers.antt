@@ -1,8 +1,10 @@
+-- A tag that is missing is the fault of board and tag.
+-- What is read well needs no proof here.
 use Rattle.std.proofs.Common.{refl}
 use Rattle.std.proofs.lemmas.Result.{err_from_is_err_and}
 use Rattle.grammar.specs.Grammar.{Grammar}
 use Rattle.reader.proofs.Ends.{tags_fault}
-use Rattle.reader.proofs.place.Whole.spoken.Goals as goal
+use Rattle.reader.proofs.parts.Whole.spoken.Goals as goal
 
 pub returns-in_err-tag : goal.returns-in_err-tag
 returns-in_err-tag c =

@@ -4,10 +4,10 @@ use Rattle.std.proofs.Common.{◌<◌, sym, ap, ◌∙◌, subst, arith}
 use Rattle.std.specs.List.{AllByRecursion}
 use Rattle.grammar.specs.Bits.{bits}
 use Rattle.head.proofs.Joins.{four_bytes}
-use Rattle.head.proofs.build.four.Goals as goal
+use Rattle.head.proofs.number.Head.bytes.Goals as goal
 
 pub returns : goal.returns
 returns c = record {
-  form = ap bits c.to_be_bytes.ensures ∙ four_bytes c.args.x;
+  form = ap bits c.to_be_bytes.ensures ∙ four_bytes c.raised.result ∙ c.raised.ensures;
   fit = subst (AllByRecursion (λ x. x < 256)) (sym c.to_be_bytes.ensures) (omega arith, (omega arith, (omega arith, (omega arith, tt))));
 }

@@ -1,8 +1,10 @@
+-- Entry by entry, each as the format has it; a fault in one is the fault of all.
+-- At the end the bytes between the two places are those of all the entries.
 use Rattle.std.proofs.Common.{◌≡◌, ◌+◌, ◌-◌, max, sym, refl, subst, arith}
 use Rattle.std.proofs.lemmas.Bool.Decides.{nat_tests}
 use Rattle.std.proofs.lemmas.Result.{err_from_is_err_and}
 use Rattle.reader.proofs.Loops.{Going, start, next, halt, ended}
-use Rattle.reader.proofs.place.Whole.entries.Goals as goal
+use Rattle.reader.proofs.parts.Whole.entries.Goals as goal
 
 pub loop-init : goal.loop-init
 loop-init c = start c.args.n c.args.self.reader

@@ -1,9 +1,11 @@
+-- Tags that are missing are the fault of set and tags.
+-- What is read well needs no proof here.
 use Rattle.std.proofs.Common.{◌*◌}
 use Rattle.std.proofs.lemmas.Result.{err_from_is_err_and}
 use Rattle.boards.specs.Boards.{size}
 use Rattle.grammar.specs.Grammar.{Grammar}
 use Rattle.reader.proofs.Ends.{tags_fault}
-use Rattle.reader.proofs.place.Whole.tagged_within.Goals as goal
+use Rattle.reader.proofs.parts.Whole.tagged_within.Goals as goal
 
 pub returns-in_err-tags : goal.returns-in_err-tags
 returns-in_err-tags c =

@@ -1,0 +1,10 @@
+-- Bytes left over are a fault; else all are read.
+-- A place between two bytes has bits left only where it has bytes left.
+use Rattle.reader.proofs.Bridge.{over, all_read}
+use Rattle.reader.proofs.parts.Whole.end.Goals as goal
+
+pub returns-then-reader : goal.returns-then-reader
+returns-then-reader c = over c.args.self.reader c.args.self.at c.if-reader.true
+
+pub returns : goal.returns
+returns c = all_read c.args.self.reader c.if-reader.false
