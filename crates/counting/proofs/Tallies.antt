@@ -1,21 +1,15 @@
--- What is counted stands in a slot before that of the lasts, and its certificate can be sent.
--- What a count does is what the rules say of each kind.
-use Rattle.std.proofs.Common.{◌≡◌, ℕ, ◌<◌, ◌≤◌, List, refl, arith}
-use Rattle.wire.specs.Messages.{Msg}
-use Rattle.wire.specs.Acts.{tag_number}
+-- The certificate of a count can be sent.
+-- What a count leaves is what the rules say of the message.
+use Rattle.std.proofs.Common.{◌≡◌, ℕ, ◌^◌, ◌<◌, ◌≤◌, sym, refl, ap}
+use Rattle.wire.specs.Messages.{tag_bytes}
 use Rattle.row.specs.declared.state.Count.{Count}
 use Rattle.row.specs.declared.state.State.{State}
-use Rattle.row.specs.States.{place_of}
-use Rattle.row.specs.Effects.{Outcome, heard}
+use Rattle.row.specs.States.{count_at, group, latest, many}
+use Rattle.row.specs.Effects.{Effect, Outcome, gained, filled, heard}
 use Rattle.sending.proofs.Certificates.{Certified, certified_suggest, certified_proposal, certified_change, certified_query}
+use Rattle.sending.proofs.Numbers.{number_is}
 use Rattle.counting.specs.declared.counts.Tally.{Tally}
-use Rattle.counting.specs.Counts.{InRange, at, certificate, slot_of}
-
-pub before_lasts : (t : Tally) → InRange t → place_of (slot_of t) < 11
-before_lasts (Tally.Notify c) h = omega (arith, h)
-before_lasts (Tally.Ack k c) h = omega arith
-before_lasts (Tally.Ready k c) h = omega arith
-before_lasts (Tally.Deputy k) h = omega arith
+use Rattle.counting.specs.Counts.{InRange, audience, certificate, least, lone_of, slot_of, stand_of}
 
 pub certified : (t : Tally) (v : ℕ) (n : Count) → InRange t → 1 ≤ v → v ≤ 64 → n.set.bits < 256 → Certified (certificate t v n)
 certified (Tally.Notify c) v n h v1 v2 byte = certified_suggest v c n.set.bits n.tags v1 v2 h byte
@@ -23,15 +17,15 @@ certified (Tally.Ack k c) v n h v1 v2 byte = certified_proposal v k c n.set.bits
 certified (Tally.Ready k c) v n h v1 v2 byte = certified_change v k c n.set.bits n.tags v1 v2 h.0 h.1 h.2 byte
 certified (Tally.Deputy k) v n h v1 v2 byte = certified_query v k n.set.bits n.tags v1 v2 h.0 h.1 byte
 
--- The four kinds as the rules hear them.
-pub heard_notify : (s : State) (v c b : ℕ) (t : List ℕ) → ◌≡◌ {A = Outcome} (at s (Tally.Notify c) b (tag_number t)) (heard s (Msg.notify v c b t))
-heard_notify s v c b t = refl
+-- What counting a lone message leaves, by the number of its tag.
+abbrev pub at : State → Tally → ℕ → ℕ → Outcome
+at s t b n =
+    let l = gained s.leader (slot_of t) b n in
+    filled s l (slot_of t) (least t (many s)) (stand_of t) (Effect.sends (audience t (group s)) (certificate t (latest s) (count_at l (slot_of t))))
 
-pub heard_ack : (s : State) (v k c b : ℕ) (t : List ℕ) → ◌≡◌ {A = Outcome} (at s (Tally.Ack k c) b (tag_number t)) (heard s (Msg.ack v k c b t))
-heard_ack s v k c b t = refl
-
-pub heard_ready : (s : State) (v k c b : ℕ) (t : List ℕ) → ◌≡◌ {A = Outcome} (at s (Tally.Ready k c) b (tag_number t)) (heard s (Msg.ready v k c b t))
-heard_ready s v k c b t = refl
-
-pub heard_deputy : (s : State) (v k b : ℕ) (t : List ℕ) → ◌≡◌ {A = Outcome} (at s (Tally.Deputy k) b (tag_number t)) (heard s (Msg.deputy v k b t))
-heard_deputy s v k b t = refl
+-- That is what the rules say of it.
+pub as_heard : (s : State) (t : Tally) (b n : ℕ) → n < 2 ^ 64 → ◌≡◌ {A = Outcome} (at s t b n) (heard s (lone_of t (latest s) b n))
+as_heard s (Tally.Notify c) b n h = ap (at s (Tally.Notify c) b) (sym (number_is n (tag_bytes n) h refl))
+as_heard s (Tally.Ack k c) b n h = ap (at s (Tally.Ack k c) b) (sym (number_is n (tag_bytes n) h refl))
+as_heard s (Tally.Ready k c) b n h = ap (at s (Tally.Ready k c) b) (sym (number_is n (tag_bytes n) h refl))
+as_heard s (Tally.Deputy k) b n h = ap (at s (Tally.Deputy k) b) (sym (number_is n (tag_bytes n) h refl))

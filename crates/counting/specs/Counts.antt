@@ -11,16 +11,16 @@ use Rattle.views.specs.Shares.{share, quorum}
 use Rattle.wire.specs.Acts.{signers, tag_of}
 use Rattle.row.specs.declared.state.Stand.TheVariants.{Acks, Readies, Lasts, Done}
 use Rattle.row.specs.declared.state.Stand.{Stand}
-use Rattle.row.specs.States.{count_at, count_tags, group, latest, many}
+use Rattle.row.specs.States.{count_tags}
 use Rattle.counting.specs.declared.counts.Tally.{Tally}
 use Rattle.schemes.specs.declared.Scheme.{Ghosts}
 use Rattle.checks.specs.Checks.{genuine}
-use Rattle.wire.specs.Messages.{Msg}
+use Rattle.wire.specs.Messages.{Msg, tag_bytes}
 use Rattle.wire.specs.Format.{Formed}
 use Rattle.row.specs.declared.state.State.{State}
 use Rattle.row.specs.declared.state.Sent.{Sent}
 use Rattle.row.specs.Refusals.{hear_refusal}
-use Rattle.row.specs.Effects.{Effect, Outcome, gained, filled, told, called_for, suggests_last}
+use Rattle.row.specs.Effects.{Effect, Outcome}
 use Rattle.row.specs.Calls.{Posted, sent}
 
 -- What goes out of an effect that signs nothing.
@@ -68,11 +68,12 @@ certificate (Tally.Ack k c) v n = Msg.proposal v k c n.set.bits (count_tags n)
 certificate (Tally.Ready k c) v n = Msg.change v k c n.set.bits (count_tags n)
 certificate (Tally.Deputy k) v n = Msg.query v k n.set.bits (count_tags n)
 
--- What a lone message does that is counted, by the number of its tag.
-abbrev pub at : State → Tally → ℕ → ℕ → Outcome
-at s t b n =
-    let l = gained s.leader (slot_of t) b n in
-    filled s l (slot_of t) (least t (many s)) (stand_of t) (Effect.sends (audience t (group s)) (certificate t (latest s) (count_at l (slot_of t))))
+-- The lone message that is counted: of a view and a speaker, with the tag of a number.
+abbrev pub lone_of : Tally → ℕ → ℕ → ℕ → Msg
+lone_of (Tally.Notify c) v b n = Msg.notify v c b (tag_bytes n)
+lone_of (Tally.Ack k c) v b n = Msg.ack v k c b (tag_bytes n)
+lone_of (Tally.Ready k c) v b n = Msg.ready v k c b (tag_bytes n)
+lone_of (Tally.Deputy k) v b n = Msg.deputy v k b (tag_bytes n)
 
 -- Its rank is 1 to 8, and its change a board.
 abbrev pub InRange : Tally → Type 0
@@ -80,10 +81,6 @@ InRange (Tally.Notify c) = c < 8
 InRange (Tally.Ack k c) = (1 ≤ k) × (k ≤ 8) × (c < 8)
 InRange (Tally.Ready k c) = (1 ≤ k) × (k ≤ 8) × (c < 8)
 InRange (Tally.Deputy k) = (1 ≤ k) × (k ≤ 8)
-
--- What a last does that is counted.
-abbrev pub at_last : State → ℕ → ℕ → ℕ → Entry → Count → Outcome
-at_last s k b n e p = let l = told s.leader b n e p in filled s l Slot.Last (quorum (many s)) (Acks (called_for s l.lowest)) (suggests_last s l k)
 
 -- A board that was not counted tells an entry that the format allows, with a proof exactly if it has an earlier rank.
 pub record Tellable (l : Leader) (b : ℕ) (e : Entry) (p : Count) : Type 0 where

@@ -4,7 +4,9 @@ ghost use Rattle.std.specs.Prelude.{◌≡◌, ◌<◌, ◌≤◌, length};
 ghost use Rattle.boards.specs.Boards.{size};
 ghost use Rattle.wire.specs.Messages.{meaning};
 ghost use Rattle.wire.specs.Acts.{tag_number};
-ghost use Rattle.counting.specs.Counts.{Counted, InRange, SpeaksIt, at, certificate, audience, least, own_tag, slot_of, stand_of};
+ghost use Rattle.counting.specs.Counts.{Counted, InRange, SpeaksIt, certificate, audience, least, lone_of, own_tag, slot_of, stand_of};
+ghost use Rattle.row.specs.States.{latest};
+ghost use Rattle.row.specs.Effects.{heard};
 
 use crate::leader::gained;
 use boards::Set;
@@ -98,7 +100,7 @@ fn count(row: &mut Row, tally: Tally, speaker: u8, number: u64, out: &mut [u8]) 
     requires range { InRange tally }
     requires speaker { speaker < 8 }
     requires room { 128 ≤ length out.old }
-    ensures { Counted (at row.old.state tally speaker number) out.old result row.new.state out.new }
+    ensures { Counted (heard row.old.state (lone_of tally (latest row.old.state) speaker number)) out.old result row.new.state out.new }
 {
     let view = row.view();
     let leader = gained(&row.state.leader, tally.slot(), speaker, number);

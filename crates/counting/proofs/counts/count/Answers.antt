@@ -1,9 +1,9 @@
 -- The certificate is formed and short, and what the leader was told stays.
--- From the laws of tallies; opens `tells` and `proves`.
-use Rattle.std.proofs.Common.{◌≤◌, sym, ◌∙◌, subst}
+-- What is left is what the rules say of the message. From the laws of tallies; opens `tells` and `proves`.
+use Rattle.std.proofs.Common.{◌^◌, ◌<◌, ◌≤◌, sym, ◌∙◌, subst, rules}
 use Rattle.row.specs.Rows.{tells, proves}
 use Rattle.sending.proofs.Certificates.{Certified, certified_posted}
-use Rattle.counting.proofs.Tallies.{certified}
+use Rattle.counting.proofs.Tallies.{as_heard, certified}
 use Rattle.counting.proofs.counts.count.Goals as goal
 
 pub invariant_of-row-clause-tells : goal.invariant_of-row-clause-tells
@@ -20,3 +20,13 @@ unwrap-requires c =
     let v1 = subst (λ x. 1 ≤ x) (sym c.latest.ensures) w.sound.counted.2 in
     let v2 = subst (λ x. x ≤ 64) (sym c.latest.ensures) w.sound.counted.3 in
     certified_posted _ _ _ c.post.result _ (subst Certified (sym c.certificate-m.ensures) (certified c.args.tally c.latest.result c.at-full.result c.requires.range v1 v2 c.at-full.ensures.byte)) c.requires.room c.post.ensures
+
+pub returns-then-len-least : goal.returns-then-len-least
+returns-then-len-least c =
+    let fits : c.args.number < 2 ^ 64 = search rules in
+    rw (← as_heard c.args.row.now.state c.args.tally c.args.speaker c.args.number fits) (search rules)
+
+pub returns-else-len-least : goal.returns-else-len-least
+returns-else-len-least c =
+    let fits : c.args.number < 2 ^ 64 = search rules in
+    rw (← as_heard c.args.row.now.state c.args.tally c.args.speaker c.args.number fits) (search rules)
