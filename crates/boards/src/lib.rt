@@ -7,7 +7,7 @@ ghost use Rattle.boards.specs.Boards.{member, only, size, Within, With, Without,
 
 mod bits;
 
-#[derive(Clone, Copy, PartialEq, Eq)]
+#[derive(Clone, Copy, Debug, PartialEq, Eq)]
 pub struct Set {
     pub bits: u8,
 }

@@ -9,7 +9,7 @@ ghost use Rattle.codes.specs.Codes.{number_of, name_of, fault_of};
 use grammar::fault::Fault;
 use std::fmt;
 
-#[derive(Clone, Copy, PartialEq, Eq)]
+#[derive(Clone, Copy, Debug, PartialEq, Eq)]
 pub enum Refusal {
     Board,
     Row,

@@ -5,7 +5,7 @@ use Rattle.grammar.specs.Grammar.{Grammar, Item, from_to}
 use Rattle.wire.specs.declared.message.Content.{Content}
 use Rattle.wire.specs.declared.message.Entry.{Entry}
 use Rattle.wire.specs.declared.message.Sort.{Sort}
-use Rattle.wire.specs.Fields.{view, zeros, change, graded, rank, carried}
+use Rattle.wire.specs.Fields.{view, zeros, change, most_change, graded, rank, carried}
 use Rattle.wire.specs.Messages.{sort_number}
 use Rattle.wire.specs.Format.{opening, graded_values}
 use Rattle.head.specs.declared.number.Head.{Head}
@@ -41,10 +41,6 @@ Carried k v c r =
     Opens k (opening k v (Item.num 3 c.sender ∷ Item.num 8 c.number ∷ Item.num 3 (sort_number c.sort) ∷ Item.num 6 (length c.payload.now) ∷ []))
     carried (λ g. Grammar.part (length c.payload.now) (λ _. g c.sender)) r
 
--- The greatest change that an entry may have: none without an earlier rank.
-abbrev pub most_change : ℕ → ℕ
-most_change e = cond (e == 0) 0 7
-
 -- An entry; what follows may depend on the earlier rank.
 abbrev pub entry_byte : (ℕ → Grammar) → Grammar
 entry_byte k = Grammar.field 4 (from_to 0 8) (λ e. zeros 1 (Grammar.field 3 (from_to 0 (most_change e)) (λ _. k e)))
@@ -57,8 +53,3 @@ entry_values e = Item.num 4 e.earlier ∷ Item.num 1 0 ∷ Item.num 3 e.change �
 pub record Entered (a : Head) (e : Entry) (r : Option Head) : Type 0 where
   pub begins : (g : Grammar) (is : List Item) (k : ℕ → Grammar) → Room a 8 → Holds g a is (entry_byte k) → Begins g (is ++ entry_values e) (k e.earlier) r
   pub full : (Room a 8 → ⊥) → r ≡ None
-
--- The least and the greatest length of a payload of a sort.
-pub record Lengths (s : Sort) (r : ℕ × ℕ) : Type 0 where
-  pub least : r.0 ≡ cond (sort_number s == 1) 1 0
-  pub most : r.1 ≡ cond (sort_number s == 1) 1 48

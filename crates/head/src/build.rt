@@ -5,6 +5,7 @@ ghost use Rattle.grammar.specs.Grammar.{from_to};
 ghost use Rattle.head.specs.Heads.{BytesOf, Joined, Raised};
 
 use crate::number::Head;
+use wire::field::Field;
 
 impl Head {
     // A head with no field.
@@ -26,9 +27,20 @@ impl Head {
         })
     }
 
+    // One more field of the format's table.
+    pub fn of(self, field: Field, value: usize) -> Option<Head>
+        ensures { Joined self field.width value (from_to field.least field.most value) result }
+    {
+        self.with(
+            field.width,
+            value,
+            usize::from(field.least),
+            usize::from(field.most),
+        )
+    }
+
     // One more field, whose value may be `least` to `most`.
     // Two numbers and no range: the library's also says whether it was gone through, which the contract would have to speak of.
-    // Numbers: the fields that have names are crate reader's own, and a table for both would have to stand below, in crate wire.
     pub fn with(self, width: u8, value: usize, least: usize, most: usize) -> Option<Head>
         ensures { Joined self width value (from_to least most value) result }
     {

@@ -6,7 +6,7 @@ ghost use Rattle.layout.specs.Layouts.{MayGather};
 
 use crate::measure::count;
 use crate::plan::Gathered;
-use head::shapes::most_change;
+use wire::field::{EARLIER, Field};
 use wire::message::{Entries, Entry, Replies, Tags};
 
 // The replies with their highest earlier rank; none if an entry is not allowed or there are not as many as boards.
@@ -61,5 +61,5 @@ pub fn reply<'a>(replies: Replies<'a>, board: u8) -> Option<(Entry, Tags<'a>)>
 fn allowed(e: Entry) -> bool
     ensures { result ≡ proper e }
 {
-    e.earlier <= 8 && e.change <= most_change(e.earlier)
+    EARLIER.allows(e.earlier) && Field::entry_change(e.earlier).allows(e.change)
 }

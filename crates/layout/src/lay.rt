@@ -7,89 +7,50 @@ ghost use Rattle.layout.specs.Layouts.{Bare, Behind, LaidOut, LaidLast, LaidSugg
 use crate::gather::gather;
 use crate::measure::fits;
 use crate::plan::{Front, Layout, Middle};
-use crate::seal::own;
+use crate::seal::lone;
 use head::number::Head;
 use head::shapes::{carried, entered, graded, noted, ranked};
 use wire::kind::Kind;
-use wire::message::{Content, Entry, Message, Replies, Tagged};
+use wire::message::{Body, Content, Entry, Message, Replies, Spoken, Tagged};
 
 // The layout of a message, if there are bytes that spell it.
 // An arm for each kind: two kinds of one shape in one arm would be no shorter, since each names its fields anyway.
 pub fn lay_out<'a>(m: &Message<'a>) -> Option<Layout<'a>>
     ensures { LaidOut (meaning m.now) result }
 {
-    match *m {
-        Message::Notify {
-            view,
-            change,
-            speaker,
-            tag,
-        } => bare(noted(Kind::Notify, view, change)?).alone(speaker, tag),
-        Message::Suggest { view, change, by } => {
-            bare(noted(Kind::Suggest, view, change)?).sealed(by)
+    let view = m.view;
+    match m.body {
+        Body::Notify { change, own } => bare(noted(Kind::Notify, view, change)?).alone(own),
+        Body::Suggest { change, by } => bare(noted(Kind::Suggest, view, change)?).sealed(by),
+        Body::Ack { rank, change, own } => bare(graded(Kind::Ack, view, rank, change)?).alone(own),
+        Body::Proposal { rank, change, by } => {
+            bare(graded(Kind::Proposal, view, rank, change)?).sealed(by)
         }
-        Message::Ack {
-            view,
+        Body::Ready { rank, change, own } => {
+            bare(graded(Kind::Ready, view, rank, change)?).alone(own)
+        }
+        Body::Change { rank, change, by } => {
+            bare(graded(Kind::Change, view, rank, change)?).sealed(by)
+        }
+        Body::Deputy { rank, own } => bare(ranked(Kind::Deputy, view, rank)?).alone(own),
+        Body::Query { rank, by } => bare(ranked(Kind::Query, view, rank)?).sealed(by),
+        Body::Last {
             rank,
-            change,
-            speaker,
-            tag,
-        } => bare(graded(Kind::Ack, view, rank, change)?).alone(speaker, tag),
-        Message::Proposal {
-            view,
-            rank,
-            change,
-            by,
-        } => bare(graded(Kind::Proposal, view, rank, change)?).sealed(by),
-        Message::Ready {
-            view,
-            rank,
-            change,
-            speaker,
-            tag,
-        } => bare(graded(Kind::Ready, view, rank, change)?).alone(speaker, tag),
-        Message::Change {
-            view,
-            rank,
-            change,
-            by,
-        } => bare(graded(Kind::Change, view, rank, change)?).sealed(by),
-        Message::Deputy {
-            view,
-            rank,
-            speaker,
-            tag,
-        } => bare(ranked(Kind::Deputy, view, rank)?).alone(speaker, tag),
-        Message::Query { view, rank, by } => bare(ranked(Kind::Query, view, rank)?).sealed(by),
-        Message::Last {
-            view,
-            rank,
-            speaker,
             entry,
-            tag,
+            own,
             proof,
-        } => last(
-            ranked(Kind::Last, view, rank)?,
-            entry,
-            own(speaker, tag)?,
-            proof,
-        ),
-        Message::SuggestLast {
-            view,
+        } => last(ranked(Kind::Last, view, rank)?, entry, lone(own)?, proof),
+        Body::SuggestLast {
             rank,
             replies,
             proof,
         } => suggest_last(ranked(Kind::SuggestLast, view, rank)?, replies, proof),
-        Message::Init { view, content, tag } => {
-            loaded(Kind::Init, view, content)?.alone(content.sender, tag)
-        }
-        Message::Echo {
-            view,
-            content,
-            speaker,
+        Body::Init { content, tag } => loaded(Kind::Init, view, content)?.alone(Spoken {
+            speaker: content.sender,
             tag,
-        } => loaded(Kind::Echo, view, content)?.alone(speaker, tag),
-        Message::Commit { view, content, by } => loaded(Kind::Commit, view, content)?.sealed(by),
+        }),
+        Body::Echo { content, own } => loaded(Kind::Echo, view, content)?.alone(own),
+        Body::Commit { content, by } => loaded(Kind::Commit, view, content)?.sealed(by),
     }
 }
 

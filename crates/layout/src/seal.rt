@@ -7,19 +7,16 @@ ghost use Rattle.layout.specs.Layouts.{Alone, Own, Proven, Sealed};
 use crate::measure::fits;
 use crate::plan::{Front, Layout};
 use boards::Set;
-use wire::message::{Tagged, Tags};
+use wire::message::{Spoken, Tagged};
 
 // Just the speaker, and its tag; none if there is no such board.
-pub(crate) fn own<'a>(speaker: u8, tag: Tags<'a>) -> Option<Tagged<'a>>
-    ensures { Own speaker tag.entry result }
+pub(crate) fn lone<'a>(own: Spoken<'a>) -> Option<Tagged<'a>>
+    ensures { Own own.entry.speaker own.entry.tag result }
 {
-    if speaker >= 8 {
+    if own.speaker >= 8 {
         return None;
     }
-    Some(Tagged {
-        set: Set::only(speaker),
-        tags: tag,
-    })
+    Some(own.tagged())
 }
 
 impl<'a> Front<'a> {
@@ -31,10 +28,10 @@ impl<'a> Front<'a> {
     }
 
     // Just the speaker.
-    pub(crate) fn alone(self, speaker: u8, tag: Tags<'a>) -> Option<Layout<'a>>
-        ensures { Alone self.entry speaker tag.entry result }
+    pub(crate) fn alone(self, own: Spoken<'a>) -> Option<Layout<'a>>
+        ensures { Alone self.entry own.entry.speaker own.entry.tag result }
     {
-        self.sealed(own(speaker, tag)?)
+        self.sealed(lone(own)?)
     }
 
     // A proof, which has boards exactly if there is an earlier rank.

@@ -5,9 +5,9 @@ ghost use Rattle.grammar.specs.declared.fault.Layer.TheVariants.{Bytes as BytesL
 ghost use Rattle.grammar.specs.Grammar.{fault};
 ghost use Rattle.reader.specs.Places.{at, Begun, Moved, NumberAt, ValueRead};
 
-use crate::field::Field;
 use crate::place::Reader;
 use grammar::fault::{Fault, Layer};
+use wire::field::Field;
 
 impl<'a> Reader<'a> {
     pub(crate) fn new(src: &'a [u8]) -> Reader<'a>
@@ -69,7 +69,7 @@ impl<'a> Reader<'a> {
         ensures { ValueRead field.width field.least field.most self.old result self.new }
     {
         let v = self.number(field)?;
-        if !(field.least..=field.most).contains(&v) {
+        if !field.allows(v) {
             return Err(self.refused());
         }
         self.skip(field);

@@ -2,8 +2,8 @@
 // Format: docs/FRAMES.md, "Kinds".
 ghost use Rattle.reader.specs.Parts.{ChangeRead, RankRead, GradedRead, CarriedRead};
 
-use crate::field::{CHANGE, END_LENGTH, NUMBER, RANK, REPORT_LENGTH, SENDER, SORT, ZERO, ZEROS};
 use crate::place::{Half, Reading, Whole};
+use wire::field::{CHANGE, Field, NUMBER, RANK, SENDER, SORT, ZERO, ZEROS};
 use wire::message::{Content, Sort};
 
 // What kinds 3 to 6 speak of.
@@ -53,10 +53,7 @@ impl<'a> Half<'a> {
         let number = reader.value(NUMBER)?;
         // The field of sorts has no number but those of sorts.
         let sort = Sort::try_from(reader.value(SORT)?).unwrap();
-        let length = reader.value(match sort {
-            Sort::Report => REPORT_LENGTH,
-            Sort::End => END_LENGTH,
-        })?;
+        let length = reader.value(Field::length(sort))?;
         let (payload, rest) = Whole { reader }.bytes(usize::from(length))?;
         let content = Content {
             sender,

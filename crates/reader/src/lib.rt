@@ -3,7 +3,6 @@
 #![tactic(auto)]
 
 mod bits;
-mod field;
 mod heads;
 mod parts;
 mod place;

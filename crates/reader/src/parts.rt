@@ -3,18 +3,11 @@
 ghost use Rattle.reader.specs.Places.{Ended, LoneRead, PartRead, SetRead};
 ghost use Rattle.reader.specs.Parts.{AnswerRead, EntriesRead, TagsRead, SpokenRead, OwnRead, TaggedRead, ProofRead, RepliesRead};
 
-use crate::field::{CHANGE, EARLIER, SET, ZERO};
 use crate::place::{Reading, Whole};
 use boards::Set;
 use grammar::fault::{Fault, Layer};
-use wire::message::{Entries, Entry, Replies, Tagged, Tags};
-
-// A board and its tag.
-#[derive(Clone, Copy)]
-pub struct Spoken<'a> {
-    pub speaker: u8,
-    pub tag: Tags<'a>,
-}
+use wire::field::{EARLIER, Field, SET, ZERO};
+use wire::message::{Entries, Entry, Replies, Spoken, Tagged, Tags};
 
 // An entry with the tag that it precedes.
 #[derive(Clone, Copy)]
@@ -135,8 +128,7 @@ impl<'a> Whole<'a> {
         let mut reader = self.reader;
         let earlier = reader.value(EARLIER)?;
         reader.value(ZERO)?;
-        let most = if earlier == 0 { 0 } else { 7 };
-        let change = reader.value(CHANGE.within(0, most))?;
+        let change = reader.value(Field::entry_change(earlier))?;
         let (tag, rest) = Whole { reader }.bytes(8)?;
         let entry = Entry { earlier, change };
         Ok((Answer { entry, tag }, rest))

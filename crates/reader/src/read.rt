@@ -3,13 +3,13 @@
 ghost use Rattle.wire.specs.Reads.{Reads};
 ghost use Rattle.reader.specs.Told.{told, OpeningRead, BodyRead};
 
-use crate::field::{KIND, VIEW};
 use crate::heads::Graded;
-use crate::parts::{Answer, Spoken};
+use crate::parts::Answer;
 use crate::place::{Half, Reader};
 use grammar::fault::Fault;
+use wire::field::{KIND, VIEW};
 use wire::kind::Kind;
-use wire::message::{Message, Tags};
+use wire::message::{Body, Message, Spoken, Tags};
 
 pub fn read<'a>(bytes: &'a [u8]) -> Result<Message<'a>, Fault>
     ensures { Reads bytes.now (told result) }
@@ -45,124 +45,86 @@ impl<'a> Opening<'a> {
         ensures { BodyRead self.entry result }
     {
         let Opening { kind, view, head } = self;
-        match kind {
+        let body = match kind {
             Kind::Notify => {
                 let (change, rest) = head.change()?;
-                let Spoken { speaker, tag } = rest.spoken()?;
-                Ok(Message::Notify {
-                    view,
-                    change,
-                    speaker,
-                    tag,
-                })
+                let own = rest.spoken()?;
+                Body::Notify { change, own }
             }
             Kind::Suggest => {
                 let (change, rest) = head.change()?;
                 let by = rest.tagged()?;
-                Ok(Message::Suggest { view, change, by })
+                Body::Suggest { change, by }
             }
             Kind::Ack => {
                 let (Graded { rank, change }, rest) = head.graded()?;
-                let Spoken { speaker, tag } = rest.spoken()?;
-                Ok(Message::Ack {
-                    view,
-                    rank,
-                    change,
-                    speaker,
-                    tag,
-                })
+                let own = rest.spoken()?;
+                Body::Ack { rank, change, own }
             }
             Kind::Proposal => {
                 let (Graded { rank, change }, rest) = head.graded()?;
                 let by = rest.tagged()?;
-                Ok(Message::Proposal {
-                    view,
-                    rank,
-                    change,
-                    by,
-                })
+                Body::Proposal { rank, change, by }
             }
             Kind::Ready => {
                 let (Graded { rank, change }, rest) = head.graded()?;
-                let Spoken { speaker, tag } = rest.spoken()?;
-                Ok(Message::Ready {
-                    view,
-                    rank,
-                    change,
-                    speaker,
-                    tag,
-                })
+                let own = rest.spoken()?;
+                Body::Ready { rank, change, own }
             }
             Kind::Change => {
                 let (Graded { rank, change }, rest) = head.graded()?;
                 let by = rest.tagged()?;
-                Ok(Message::Change {
-                    view,
-                    rank,
-                    change,
-                    by,
-                })
+                Body::Change { rank, change, by }
             }
             Kind::Deputy => {
                 let (rank, rest) = head.rank()?;
-                let Spoken { speaker, tag } = rest.spoken()?;
-                Ok(Message::Deputy {
-                    view,
-                    rank,
-                    speaker,
-                    tag,
-                })
+                let own = rest.spoken()?;
+                Body::Deputy { rank, own }
             }
             Kind::Query => {
                 let (rank, rest) = head.rank()?;
                 let by = rest.tagged()?;
-                Ok(Message::Query { view, rank, by })
+                Body::Query { rank, by }
             }
             Kind::Last => {
                 let (rank, rest) = head.rank()?;
                 let (speaker, rest) = rest.lone()?;
                 let (Answer { entry, tag }, rest) = rest.answer()?;
                 let proof = rest.proof(entry.earlier)?;
-                Ok(Message::Last {
-                    view,
+                let tag = Tags::Heard(tag);
+                Body::Last {
                     rank,
-                    speaker,
                     entry,
-                    tag: Tags::Heard(tag),
+                    own: Spoken { speaker, tag },
                     proof,
-                })
+                }
             }
             Kind::SuggestLast => {
                 let (rank, rest) = head.rank()?;
                 let ((replies, highest), rest) = rest.replies()?;
                 let proof = rest.proof(highest)?;
-                Ok(Message::SuggestLast {
-                    view,
+                Body::SuggestLast {
                     rank,
                     replies,
                     proof,
-                })
+                }
             }
             Kind::Init => {
                 let (content, rest) = head.carried()?;
                 let tag = rest.own(content.sender)?;
-                Ok(Message::Init { view, content, tag })
+                Body::Init { content, tag }
             }
             Kind::Echo => {
                 let (content, rest) = head.carried()?;
-                let Spoken { speaker, tag } = rest.spoken()?;
-                Ok(Message::Echo {
-                    view,
-                    content,
-                    speaker,
-                    tag,
-                })
+                let own = rest.spoken()?;
+                Body::Echo { content, own }
             }
             Kind::Commit => {
                 let (content, rest) = head.carried()?;
                 let by = rest.tagged()?;
-                Ok(Message::Commit { view, content, by })
+                Body::Commit { content, by }
             }
-        }
+        };
+        Ok(Message { view, body })
     }
 }

@@ -14,29 +14,29 @@ mod tags;
 
 use crate::acks::Proof;
 use crate::replies::{entry_of, lowest, reply_tag};
-use crate::tags::{alone, tag_by, whole_tag};
+use crate::tags::{tag_by, whole_tag};
 use boards::Set;
-use wire::message::{Entry, Message, Tagged, Tags};
-use words::statement::Statement;
+use wire::message::{Body, Entry, Message, Spoken, Tagged, Tags};
+use words::statement::{Claim, Statement};
 
 // The boards whose tags a message has.
 pub fn signers(m: &Message<'_>) -> Set
     ensures { SignedBy (meaning m.now) result }
 {
-    match *m {
-        Message::Notify { speaker, .. }
-        | Message::Ack { speaker, .. }
-        | Message::Ready { speaker, .. }
-        | Message::Deputy { speaker, .. }
-        | Message::Last { speaker, .. }
-        | Message::Echo { speaker, .. } => Set::only(speaker),
-        Message::Init { content, .. } => Set::only(content.sender),
-        Message::Suggest { by, .. }
-        | Message::Proposal { by, .. }
-        | Message::Change { by, .. }
-        | Message::Query { by, .. }
-        | Message::Commit { by, .. } => by.set,
-        Message::SuggestLast { replies, .. } => replies.set,
+    match m.body {
+        Body::Notify { own, .. }
+        | Body::Ack { own, .. }
+        | Body::Ready { own, .. }
+        | Body::Deputy { own, .. }
+        | Body::Last { own, .. }
+        | Body::Echo { own, .. } => Set::only(own.speaker),
+        Body::Init { content, .. } => Set::only(content.sender),
+        Body::Suggest { by, .. }
+        | Body::Proposal { by, .. }
+        | Body::Change { by, .. }
+        | Body::Query { by, .. }
+        | Body::Commit { by, .. } => by.set,
+        Body::SuggestLast { replies, .. } => replies.set,
     }
 }
 
@@ -47,29 +47,26 @@ pub fn statement<'a>(m: &Message<'a>, board: u8) -> Option<Statement<'a>>
     if !signers(m).has(board) {
         return None;
     }
-    let view = m.view();
-    Some(match *m {
-        Message::Notify { change, .. } | Message::Suggest { change, .. } => {
-            Statement::Notify { view, change }
+    let claim = match m.body {
+        Body::Notify { change, .. } | Body::Suggest { change, .. } => Claim::Notify { change },
+        Body::Ack { rank, change, .. } | Body::Proposal { rank, change, .. } => {
+            Claim::Ack { rank, change }
         }
-        Message::Ack { rank, change, .. } | Message::Proposal { rank, change, .. } => {
-            Statement::Ack { view, rank, change }
+        Body::Ready { rank, change, .. } | Body::Change { rank, change, .. } => {
+            Claim::Ready { rank, change }
         }
-        Message::Ready { rank, change, .. } | Message::Change { rank, change, .. } => {
-            Statement::Ready { view, rank, change }
-        }
-        Message::Deputy { rank, .. } | Message::Query { rank, .. } => {
-            Statement::Deputy { view, rank }
-        }
-        Message::Last { rank, entry, .. } => Statement::Last { view, rank, entry },
-        Message::SuggestLast { rank, replies, .. } => {
+        Body::Deputy { rank, .. } | Body::Query { rank, .. } => Claim::Deputy { rank },
+        Body::Last { rank, entry, .. } => Claim::Last { rank, entry },
+        Body::SuggestLast { rank, replies, .. } => {
             let entry = entry_of(replies, board)?;
-            Statement::Last { view, rank, entry }
+            Claim::Last { rank, entry }
         }
-        Message::Init { content, .. } => Statement::Init { view, content },
-        Message::Echo { content, .. } | Message::Commit { content, .. } => {
-            Statement::Echo { view, content }
-        }
+        Body::Init { content, .. } => Claim::Init { content },
+        Body::Echo { content, .. } | Body::Commit { content, .. } => Claim::Echo { content },
+    };
+    Some(Statement {
+        view: m.view,
+        claim,
     })
 }
 
@@ -77,20 +74,26 @@ pub fn statement<'a>(m: &Message<'a>, board: u8) -> Option<Statement<'a>>
 pub fn tag(m: &Message<'_>, board: u8) -> Option<u64>
     ensures { SignerTagged (meaning m.now) board result }
 {
-    match *m {
-        Message::Notify { speaker, tag, .. }
-        | Message::Ack { speaker, tag, .. }
-        | Message::Ready { speaker, tag, .. }
-        | Message::Deputy { speaker, tag, .. }
-        | Message::Echo { speaker, tag, .. } => tag_by(alone(speaker, tag), board),
-        Message::Init { content, tag, .. } => tag_by(alone(content.sender, tag), board),
-        Message::Last { speaker, tag, .. } => whole_tag(speaker, tag, board),
-        Message::Suggest { by, .. }
-        | Message::Proposal { by, .. }
-        | Message::Change { by, .. }
-        | Message::Query { by, .. }
-        | Message::Commit { by, .. } => tag_by(by, board),
-        Message::SuggestLast { replies, .. } => reply_tag(replies, board),
+    match m.body {
+        Body::Notify { own, .. }
+        | Body::Ack { own, .. }
+        | Body::Ready { own, .. }
+        | Body::Deputy { own, .. }
+        | Body::Echo { own, .. } => tag_by(own.tagged(), board),
+        Body::Init { content, tag } => {
+            let own = Spoken {
+                speaker: content.sender,
+                tag,
+            };
+            tag_by(own.tagged(), board)
+        }
+        Body::Last { own, .. } => whole_tag(own, board),
+        Body::Suggest { by, .. }
+        | Body::Proposal { by, .. }
+        | Body::Change { by, .. }
+        | Body::Query { by, .. }
+        | Body::Commit { by, .. } => tag_by(by, board),
+        Body::SuggestLast { replies, .. } => reply_tag(replies, board),
     }
 }
 
@@ -98,9 +101,9 @@ pub fn tag(m: &Message<'_>, board: u8) -> Option<u64>
 pub fn lowest_entry(m: &Message<'_>) -> Entry
     ensures { result ≡ (proof_of (meaning m.now)).entry }
 {
-    match *m {
-        Message::Last { entry, .. } => entry,
-        Message::SuggestLast { replies, .. } => lowest(replies),
+    match m.body {
+        Body::Last { entry, .. } => entry,
+        Body::SuggestLast { replies, .. } => lowest(replies),
         _ => Entry::NONE,
     }
 }
@@ -113,11 +116,13 @@ pub fn proof(m: &Message<'_>) -> Option<Proof>
     if boards == Set::EMPTY {
         return None;
     }
-    let entry = lowest_entry(m);
-    let act = Statement::Ack {
-        view: m.view(),
-        rank: entry.earlier,
-        change: entry.change,
+    let Entry { earlier, change } = lowest_entry(m);
+    let act = Statement {
+        view: m.view,
+        claim: Claim::Ack {
+            rank: earlier,
+            change,
+        },
     };
     Some(Proof { boards, act })
 }
@@ -133,8 +138,8 @@ pub fn proof_tag(m: &Message<'_>, board: u8) -> Option<u64>
 fn proof_by<'a>(m: &Message<'a>) -> Tagged<'a>
     ensures { ProofLies (meaning m.now) result }
 {
-    match *m {
-        Message::Last { proof, .. } | Message::SuggestLast { proof, .. } => proof,
+    match m.body {
+        Body::Last { proof, .. } | Body::SuggestLast { proof, .. } => proof,
         _ => Tagged {
             set: Set::EMPTY,
             tags: Tags::Heard(&[]),

@@ -45,11 +45,7 @@ pub(crate) fn reply_tag(replies: Replies<'_>, board: u8) -> Option<u64>
 fn lower(a: Entry, b: Entry) -> Entry
     ensures { result ≡ lower a b }
 {
-    if b.earlier == 0 || (a.earlier != 0 && a.earlier <= b.earlier) {
-        a
-    } else {
-        b
-    }
+    if b.undercuts(a) { b } else { a }
 }
 
 // The entry of the lowest earlier rank among heard replies.

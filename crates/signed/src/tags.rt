@@ -2,13 +2,12 @@
 // Where the tags lie, heard, stored or fresh, makes no difference to the answer.
 ghost use Rattle.std.specs.Prelude.{◌≡◌, take, drop};
 ghost use Rattle.boards.specs.Boards.{only, place};
-ghost use Rattle.wire.specs.Messages.{tags_by, tags_of};
+ghost use Rattle.wire.specs.Messages.{tag_by, tags_by};
 ghost use Rattle.wire.specs.Acts.{tag_at};
 ghost use Rattle.signed.specs.Signed.{TagIs};
 ghost use Rattle.signed.specs.Places.{Eight};
 
-use boards::Set;
-use wire::message::{Tagged, Tags};
+use wire::message::{Spoken, Tagged, Tags};
 
 // The eight bytes that begin at a place, as one number; none if there are fewer.
 pub(crate) fn eight(bytes: &[u8], at: usize) -> Option<u64>
@@ -31,22 +30,11 @@ pub(crate) fn tag_by(by: Tagged<'_>, board: u8) -> Option<u64>
 }
 
 // The board's tag where it is the whole of a lone speaker's bytes.
-pub(crate) fn whole_tag(speaker: u8, tags: Tags<'_>, board: u8) -> Option<u64>
-    ensures { TagIs (only speaker) board (tags_of (only speaker) tags.entry) result }
+pub(crate) fn whole_tag(own: Spoken<'_>, board: u8) -> Option<u64>
+    ensures { TagIs (only own.entry.speaker) board (tag_by own.entry) result }
 {
-    match tags {
+    match own.tag {
         Tags::Heard(bytes) if bytes.len() != 8 => None,
-        _ => tag_by(alone(speaker, tags), board),
-    }
-}
-
-// A lone speaker with its tag.
-pub(crate) fn alone<'a>(speaker: u8, tags: Tags<'a>) -> Tagged<'a>
-    ensures set { result.set.bits ≡ only speaker }
-    ensures tags { result.tags ≡ tags.entry }
-{
-    Tagged {
-        set: Set::only(speaker),
-        tags,
+        _ => tag_by(own.tagged(), board),
     }
 }

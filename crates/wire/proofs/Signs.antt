@@ -1,6 +1,6 @@
 -- What a formed message signs is allowed: the act behind each board's tag, and the act behind its proof.
 -- The words of an allowed act have 2 to 52 bytes.
-use Rattle.std.proofs.Common.{◌≡◌, ℕ, zero, suc, ◌^◌, ◌<◌, ◌≤◌, max, true, false, cond, eqb, ltb, leb, ◌⊎◌, List, [], ◌∷◌, ◌++◌, length, get_or, refl, ap, ◌∙◌, subst, inl, inr, ⊎_elim, arith}
+use Rattle.std.proofs.Common.{◌≡◌, ℕ, zero, suc, ◌^◌, ◌<◌, ◌≤◌, max, Bool, true, false, cond, not, ◌&&◌, ◌||◌, eqb, ltb, leb, ◌⊎◌, List, [], ◌∷◌, ◌++◌, length, get_or, refl, ap, ◌∙◌, subst, inl, inr, ⊎_elim, arith}
 use Rattle.std.specs.List.{AllByRecursion}
 use Rattle.std.proofs.ByRecursion.{All-get_or}
 use Rattle.std.proofs.lemmas.Bool.{and_parts, and_from, leb-true, le-leb, eqb-true, eqb-false, ne_eqb, cond_both, cond-false, cases_lt, both_ways}
@@ -104,13 +104,19 @@ none_allowed = record { rank_fits = omega arith; rank_allowed = refl; change_fit
 not_zero : (n : ℕ) → eqb n 0 ≡ false → 0 < n
 not_zero n e = let ne = eqb-false n 0 e in omega arith
 
+-- What holds of a choice whose test is `undercuts`, test by test.
+undercut : {A : Type 0} (c d e : Bool) (a b : A) (P : A → Type 0) → (c ≡ true → P a) → (c ≡ false → P b) → (d ≡ false → P a) → P (cond (not c && (d || e)) b a)
+undercut true d e a b P p q r = p refl
+undercut false true e a b P p q r = q refl
+undercut false false true a b P p q r = q refl
+undercut false false false a b P p q r = r refl
+
 -- The lower of two entries is the first only if the second has no earlier rank or the first has one, and the second only if it has one.
 lower_by : (P : Entry → Type 0) (a b : Entry) → ((b.earlier ≡ 0) ⊎ (0 < a.earlier) → P a) → (0 < b.earlier → P b) → P (lower a b)
 lower_by P a b p q =
     let x = a.earlier in
     let y = b.earlier in
-    cond_both (eqb y 0) a (cond (eqb x 0) b (cond (ltb y x) b a)) P (λ e. p (inl (eqb-true y 0 e)))
-    (λ e. cond_both (eqb x 0) b (cond (ltb y x) b a) P (λ _. q (not_zero y e)) (λ f. cond_both (ltb y x) b a P (λ _. q (not_zero y e)) (λ _. p (inr (not_zero x f)))))
+    undercut (eqb y 0) (eqb x 0) (ltb y x) a b P (λ e. p (inl (eqb-true y 0 e))) (λ e. q (not_zero y e)) (λ f. p (inr (not_zero x f)))
 
 lowest_allowed : (es : List Reply) → AllByRecursion (λ e. EntryAllowed e.entry) es → EntryAllowed (lowest es)
 unfolding lowest

@@ -1,12 +1,12 @@
 -- Acts: what a board signs. Each tag in a message stands for an act of its board, and the words of an act are the bytes signed for it.
 -- A message that gathers many boards' tags has the words of the lone kind it gathers.
-use Rattle.std.specs.Prelude.{ℕ, ◌*◌, Bool, cond, ◌||◌, List, [], ◌∷◌, take, drop, ◌==◌, nat_lt, slice_index_or}
+use Rattle.std.specs.Prelude.{ℕ, ◌*◌, Bool, cond, not, ◌&&◌, ◌||◌, List, [], ◌∷◌, take, drop, ◌==◌, nat_lt, slice_index_or}
 use Rattle.boards.specs.Boards.{place, only}
 use Rattle.grammar.specs.Bits.{bits, number_of}
 use Rattle.grammar.specs.Grammar.{Grammar, Item, After, from_to}
 use Rattle.wire.specs.declared.message.Sort.{Sort}
 use Rattle.wire.specs.declared.message.Entry.{Entry}
-use Rattle.wire.specs.Fields.{view, zeros, rank, change, graded, carried}
+use Rattle.wire.specs.Fields.{view, zeros, rank, change, most_change, graded, carried}
 use Rattle.wire.specs.Messages.{Msg, Reply, none, view_of}
 use Rattle.wire.specs.Format.{opening, graded_values, content_values, packed}
 
@@ -46,7 +46,7 @@ signed_bodies =
     ∷ Grammar.done
     ∷ rank Grammar.done  -- 7 deputy
     ∷ Grammar.done
-    ∷ rank (Grammar.field 4 (from_to 0 8) (λ e. zeros 1 (Grammar.field 3 (from_to 0 (cond (e == 0) 0 7)) (λ _. Grammar.done))))  -- 9 last
+    ∷ rank (Grammar.field 4 (from_to 0 8) (λ e. zeros 1 (Grammar.field 3 (from_to 0 (most_change e)) (λ _. Grammar.done))))  -- 9 last
     ∷ Grammar.done
     ∷ carried (λ _. Grammar.done)  -- 11 init
     ∷ carried (λ _. Grammar.done)  -- 12 echo
@@ -121,9 +121,13 @@ tag_of (Msg.init v s n k p t) b = tag_at (place (only s) b) t
 tag_of (Msg.echo v s n k p b' t) b = tag_at (place (only b') b) t
 tag_of (Msg.commit v s n k p b' t) b = tag_at (place b' b) t
 
+-- Whether an entry has a lower earlier rank than another; rank 0 is none, and not the lowest.
+abbrev pub undercuts : Entry → Entry → Bool
+undercuts e low = not (e.earlier == 0) && (low.earlier == 0 || nat_lt e.earlier low.earlier)
+
 -- Of two entries the one with the lower earlier rank, 0 never counted; the first where they are equal.
 abbrev pub lower : Entry → Entry → Entry
-lower a b = cond (b.earlier == 0) a (cond (a.earlier == 0) b (cond (nat_lt b.earlier a.earlier) b a))
+lower a b = cond (undercuts b a) b a
 
 -- The entry of the lowest earlier rank, that of the lowest board where several have it; `none` if there is no earlier rank.
 unfoldable pub lowest : List Reply → Entry

@@ -24,11 +24,22 @@ change k = Grammar.field 3 (from_to 0 7) (λ _. k)
 abbrev pub graded : Grammar → Grammar
 graded k = rank (zeros 5 (change k))
 
--- Sender, number, sort, length and payload, in kinds 11 to 13; an end has one byte. What follows may depend on the sender.
+-- How many bytes a payload of a sort has, at least and at most: an end has one byte.
+abbrev pub shortest : ℕ → ℕ
+shortest sort = cond (sort == 1) 1 0
+
+abbrev pub longest : ℕ → ℕ
+longest sort = cond (sort == 1) 1 48
+
+-- The greatest change that an entry may have: none without an earlier rank.
+abbrev pub most_change : ℕ → ℕ
+most_change earlier = cond (earlier == 0) 0 7
+
+-- Sender, number, sort, length and payload, in kinds 11 to 13. What follows may depend on the sender.
 abbrev pub carried : (ℕ → Grammar) → Grammar
 carried k =
     Grammar.field 3 (from_to 0 7) (λ sender. Grammar.field 8 (from_to 1 255) (λ _. Grammar.field 3 (from_to 0 1) (λ sort.
-    Grammar.field 6 (from_to (cond (sort == 1) 1 0) (cond (sort == 1) 1 48)) (λ n. Grammar.part n (λ _. k sender)))))
+    Grammar.field 6 (from_to (shortest sort) (longest sort)) (λ n. Grammar.part n (λ _. k sender)))))
 
 -- A set of just one board.
 unfoldable pub lone : ℕ → Bool
@@ -48,7 +59,7 @@ tagged k = Grammar.field 8 (from_to 0 255) (λ s. Grammar.part (8 * size s) (λ 
 
 -- An entry byte and the tag it precedes: without an earlier rank there is no change. What follows may depend on the earlier rank.
 abbrev pub entered : (ℕ → Grammar) → Grammar
-entered k = Grammar.field 4 (from_to 0 8) (λ e. zeros 1 (Grammar.field 3 (from_to 0 (cond (e == 0) 0 7)) (λ _. Grammar.part 8 (λ _. k e))))
+entered k = Grammar.field 4 (from_to 0 8) (λ e. zeros 1 (Grammar.field 3 (from_to 0 (most_change e)) (λ _. Grammar.part 8 (λ _. k e))))
 
 -- As many entries; what follows may depend on the highest earlier rank.
 unfoldable pub entries : ℕ → ℕ → (ℕ → Grammar) → Grammar

@@ -12,8 +12,10 @@ use Rattle.wire.specs.declared.message.Entries.{Entries}
 use Rattle.wire.specs.declared.message.Entries.TheVariants.{Heard as HeardEntries, Stored as StoredEntries}
 use Rattle.wire.specs.declared.message.Tagged.{Tagged}
 use Rattle.wire.specs.declared.message.Replies.{Replies}
+use Rattle.wire.specs.declared.message.Spoken.{Spoken}
 use Rattle.wire.specs.declared.message.Message.{Message}
-use Rattle.wire.specs.declared.message.Message.TheVariants.{Notify, Suggest, Ack, Proposal, Ready, Change, Deputy, Query, Last, SuggestLast, Init, Echo, Commit}
+use Rattle.wire.specs.declared.message.Body.{Body}
+use Rattle.wire.specs.declared.message.Body.TheVariants.{Notify, Suggest, Ack, Proposal, Ready, Change, Deputy, Query, Last, SuggestLast, Init, Echo, Commit}
 
 -- A board's reply to a query, with its tag.
 pub record Reply : Type 0 where
@@ -146,18 +148,26 @@ tags_by q = tags_of q.set.bits q.tags
 abbrev pub replies_by : Replies → List Reply
 replies_by q = replies_of q.set.bits q.entries
 
+-- The bytes of a lone board's tag.
+abbrev pub tag_by : Spoken → List ℕ
+tag_by q = tags_of (only q.speaker) q.tag
+
+-- What the body of a message for view v means.
+abbrev pub said_in : ℕ → Body → Msg
+said_in v (Notify c q) = Msg.notify v c q.speaker (tag_by q)
+said_in v (Suggest c q) = Msg.suggest v c q.set.bits (tags_by q)
+said_in v (Ack r c q) = Msg.ack v r c q.speaker (tag_by q)
+said_in v (Proposal r c q) = Msg.proposal v r c q.set.bits (tags_by q)
+said_in v (Ready r c q) = Msg.ready v r c q.speaker (tag_by q)
+said_in v (Change r c q) = Msg.change v r c q.set.bits (tags_by q)
+said_in v (Deputy r q) = Msg.deputy v r q.speaker (tag_by q)
+said_in v (Query r q) = Msg.query v r q.set.bits (tags_by q)
+said_in v (Last r e q p) = Msg.last v r q.speaker (record { entry = e; tag = tag_by q }) p.set.bits (tags_by p)
+said_in v (SuggestLast r es p) = Msg.suggest_last v r es.set.bits (replies_by es) p.set.bits (tags_by p)
+said_in v (Init c t) = Msg.init v c.sender c.number c.sort c.payload.now (tags_of (only c.sender) t)
+said_in v (Echo c q) = Msg.echo v c.sender c.number c.sort c.payload.now q.speaker (tag_by q)
+said_in v (Commit c q) = Msg.commit v c.sender c.number c.sort c.payload.now q.set.bits (tags_by q)
+
 -- What a value of the program means.
 abbrev pub meaning : Message → Msg
-meaning (Notify v c s t) = Msg.notify v c s (tags_of (only s) t)
-meaning (Suggest v c q) = Msg.suggest v c q.set.bits (tags_by q)
-meaning (Ack v r c s t) = Msg.ack v r c s (tags_of (only s) t)
-meaning (Proposal v r c q) = Msg.proposal v r c q.set.bits (tags_by q)
-meaning (Ready v r c s t) = Msg.ready v r c s (tags_of (only s) t)
-meaning (Change v r c q) = Msg.change v r c q.set.bits (tags_by q)
-meaning (Deputy v r s t) = Msg.deputy v r s (tags_of (only s) t)
-meaning (Query v r q) = Msg.query v r q.set.bits (tags_by q)
-meaning (Last v r s e t p) = Msg.last v r s (record { entry = e; tag = tags_of (only s) t }) p.set.bits (tags_by p)
-meaning (SuggestLast v r es p) = Msg.suggest_last v r es.set.bits (replies_by es) p.set.bits (tags_by p)
-meaning (Init v c t) = Msg.init v c.sender c.number c.sort c.payload.now (tags_of (only c.sender) t)
-meaning (Echo v c s t) = Msg.echo v c.sender c.number c.sort c.payload.now s (tags_of (only s) t)
-meaning (Commit v c q) = Msg.commit v c.sender c.number c.sort c.payload.now q.set.bits (tags_by q)
+meaning m = said_in m.view m.body

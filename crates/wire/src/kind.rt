@@ -5,7 +5,7 @@ ghost use Rattle.wire.specs.Kinds.{kind_name, KindNumbered};
 
 use std::fmt;
 
-#[derive(Clone, Copy, PartialEq, Eq)]
+#[derive(Clone, Copy, Debug, PartialEq, Eq)]
 pub enum Kind {
     Notify = 1,
     Suggest = 2,
@@ -23,7 +23,7 @@ pub enum Kind {
 }
 
 // A number that no kind has, or no sort.
-#[derive(Clone, Copy, PartialEq, Eq)]
+#[derive(Clone, Copy, Debug, PartialEq, Eq)]
 pub struct Unknown(pub u8);
 
 impl TryFrom<u8> for Kind {

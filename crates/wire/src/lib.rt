@@ -2,6 +2,7 @@
 // Format: docs/FRAMES.md. Laws of the format: src/laws.rt.
 #![tactic(auto)]
 
+pub mod field;
 pub mod kind;
 pub mod laws;
 pub mod message;

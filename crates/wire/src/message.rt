@@ -1,15 +1,17 @@
 // A message of the backplane: thirteen kinds that name payload and tags as parts of the bytes they were read from.
 // Rules: docs/FRAMES.md, "Kinds". What a value means, apart from where its bytes lie, is `meaning` in specs/Messages.antt.
 ghost use Rattle.std.specs.Prelude.{◌≡◌, Some};
+ghost use Rattle.boards.specs.Boards.{only};
+ghost use Rattle.wire.specs.Acts.{undercuts};
 ghost use Rattle.wire.specs.Kinds.{kind_number};
-ghost use Rattle.wire.specs.Messages.{entry_byte, entry_in, kind, meaning, sort_name, view_of, SortNumbered};
+ghost use Rattle.wire.specs.Messages.{entry_byte, entry_in, kind, meaning, sort_name, SortNumbered};
 
 use crate::kind::{Kind, Unknown};
 use boards::Set;
 use std::fmt;
 
 // What a payload is: a report, or the end that closes a view for its sender.
-#[derive(Clone, Copy, PartialEq, Eq)]
+#[derive(Clone, Copy, Debug, PartialEq, Eq)]
 pub enum Sort {
     Report = 0,
     End = 1,
@@ -50,7 +52,8 @@ impl fmt::Display for Sort {
 }
 
 // A board's answer to a query: the rank of the proposal it keeps and that proposal's change; rank 0 for none.
-#[derive(Clone, Copy, PartialEq, Eq)]
+// Not an `Option` of both: an entry that was heard is any byte, and rank 0 with a change, which the format refuses, is one that must be sayable.
+#[derive(Clone, Copy, Debug, PartialEq, Eq)]
 pub struct Entry {
     pub earlier: u8,
     pub change: u8,
@@ -62,6 +65,13 @@ impl Entry {
         earlier: 0,
         change: 0,
     };
+
+    // Whether its earlier rank is lower than that of another, where rank 0 is none and not the lowest.
+    pub fn undercuts(self, other: Entry) -> bool
+        ensures { result ≡ undercuts self other }
+    {
+        self.earlier != 0 && (other.earlier == 0 || self.earlier < other.earlier)
+    }
 }
 
 // An entry is one byte: the earlier rank on top, the change in the lowest three bits.
@@ -95,6 +105,7 @@ pub enum Tags<'a> {
 }
 
 // Entries with their tags, by rising board number: as heard, nine bytes each, or as a row stores them, by board number.
+// Two arrays: a row keeps the tags of lasts as it keeps those of every other kind that it counts, and the entries, which only lasts have, beside them.
 #[derive(Clone, Copy)]
 pub enum Entries<'a> {
     Heard(&'a [u8]),
@@ -102,6 +113,26 @@ pub enum Entries<'a> {
         entries: &'a [Entry; 8],
         tags: &'a [u64; 8],
     },
+}
+
+// A lone board with its tag.
+#[derive(Clone, Copy)]
+pub struct Spoken<'a> {
+    pub speaker: u8,
+    pub tag: Tags<'a>,
+}
+
+impl<'a> Spoken<'a> {
+    // The board as a set, with the same tag; no board for a number above 7.
+    pub fn tagged(self) -> Tagged<'a>
+        ensures set { result.set.bits ≡ only self.entry.speaker }
+        ensures tags { result.tags ≡ self.entry.tag }
+    {
+        Tagged {
+            set: Set::only(self.speaker),
+            tags: self.tag,
+        }
+    }
 }
 
 // A set of boards with their tags.
@@ -127,86 +158,75 @@ pub struct Content<'a> {
     pub payload: &'a [u8],
 }
 
+// What a message says besides its view: thirteen kinds.
 #[derive(Clone, Copy)]
-pub enum Message<'a> {
+pub enum Body<'a> {
     Notify {
-        view: u8,
         change: u8,
-        speaker: u8,
-        tag: Tags<'a>,
+        own: Spoken<'a>,
     },
     Suggest {
-        view: u8,
         change: u8,
         by: Tagged<'a>,
     },
     Ack {
-        view: u8,
         rank: u8,
         change: u8,
-        speaker: u8,
-        tag: Tags<'a>,
+        own: Spoken<'a>,
     },
     Proposal {
-        view: u8,
         rank: u8,
         change: u8,
         by: Tagged<'a>,
     },
     Ready {
-        view: u8,
         rank: u8,
         change: u8,
-        speaker: u8,
-        tag: Tags<'a>,
+        own: Spoken<'a>,
     },
     Change {
-        view: u8,
         rank: u8,
         change: u8,
         by: Tagged<'a>,
     },
     Deputy {
-        view: u8,
         rank: u8,
-        speaker: u8,
-        tag: Tags<'a>,
+        own: Spoken<'a>,
     },
     Query {
-        view: u8,
         rank: u8,
         by: Tagged<'a>,
     },
     Last {
-        view: u8,
         rank: u8,
-        speaker: u8,
         entry: Entry,
-        tag: Tags<'a>,
+        own: Spoken<'a>,
         proof: Tagged<'a>,
     },
     SuggestLast {
-        view: u8,
         rank: u8,
         replies: Replies<'a>,
         proof: Tagged<'a>,
     },
     Init {
-        view: u8,
         content: Content<'a>,
         tag: Tags<'a>,
     },
     Echo {
-        view: u8,
         content: Content<'a>,
-        speaker: u8,
-        tag: Tags<'a>,
+        own: Spoken<'a>,
     },
     Commit {
-        view: u8,
         content: Content<'a>,
         by: Tagged<'a>,
     },
+}
+
+// A message: the view that it is for, and what it says there.
+#[derive(Clone, Copy)]
+pub struct Message<'a> {
+    pub view: u8,
+    pub body: Body<'a>,
 }
 
 impl<'a> Message<'a> {
@@ -214,41 +234,20 @@ impl<'a> Message<'a> {
     pub fn kind(&self) -> Kind
         ensures { kind_number result ≡ kind (meaning self.now) }
     {
-        match *self {
-            Message::Notify { .. } => Kind::Notify,
-            Message::Suggest { .. } => Kind::Suggest,
-            Message::Ack { .. } => Kind::Ack,
-            Message::Proposal { .. } => Kind::Proposal,
-            Message::Ready { .. } => Kind::Ready,
-            Message::Change { .. } => Kind::Change,
-            Message::Deputy { .. } => Kind::Deputy,
-            Message::Query { .. } => Kind::Query,
-            Message::Last { .. } => Kind::Last,
-            Message::SuggestLast { .. } => Kind::SuggestLast,
-            Message::Init { .. } => Kind::Init,
-            Message::Echo { .. } => Kind::Echo,
-            Message::Commit { .. } => Kind::Commit,
-        }
-    }
-
-    // The view that it is for.
-    pub fn view(&self) -> u8
-        ensures { result ≡ view_of (meaning self.now) }
-    {
-        match *self {
-            Message::Notify { view, .. }
-            | Message::Suggest { view, .. }
-            | Message::Ack { view, .. }
-            | Message::Proposal { view, .. }
-            | Message::Ready { view, .. }
-            | Message::Change { view, .. }
-            | Message::Deputy { view, .. }
-            | Message::Query { view, .. }
-            | Message::Last { view, .. }
-            | Message::SuggestLast { view, .. }
-            | Message::Init { view, .. }
-            | Message::Echo { view, .. }
-            | Message::Commit { view, .. } => view,
+        match self.body {
+            Body::Notify { .. } => Kind::Notify,
+            Body::Suggest { .. } => Kind::Suggest,
+            Body::Ack { .. } => Kind::Ack,
+            Body::Proposal { .. } => Kind::Proposal,
+            Body::Ready { .. } => Kind::Ready,
+            Body::Change { .. } => Kind::Change,
+            Body::Deputy { .. } => Kind::Deputy,
+            Body::Query { .. } => Kind::Query,
+            Body::Last { .. } => Kind::Last,
+            Body::SuggestLast { .. } => Kind::SuggestLast,
+            Body::Init { .. } => Kind::Init,
+            Body::Echo { .. } => Kind::Echo,
+            Body::Commit { .. } => Kind::Commit,
         }
     }
 }

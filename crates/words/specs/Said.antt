@@ -3,18 +3,23 @@
 use Rattle.std.specs.Prelude.{◌≡◌, ℕ, List, take, Some, None, Option}
 use Rattle.wire.specs.Acts.{Act, Allowed, words}
 use Rattle.words.specs.declared.statement.Statement.{Statement}
-use Rattle.words.specs.declared.statement.Statement.TheVariants.{Notify, Ack, Ready, Deputy, Last, Init, Echo}
+use Rattle.words.specs.declared.statement.Claim.{Claim}
+use Rattle.words.specs.declared.statement.Claim.TheVariants.{Notify, Ack, Ready, Deputy, Last, Init, Echo}
 use Rattle.words.specs.declared.text.Words.{Words}
+
+-- The act of a claim in view v.
+abbrev pub claimed : ℕ → Claim → Act
+claimed v (Notify c) = Act.notify v c
+claimed v (Ack r c) = Act.ack v r c
+claimed v (Ready r c) = Act.ready v r c
+claimed v (Deputy r) = Act.deputy v r
+claimed v (Last r e) = Act.last v r e
+claimed v (Init c) = Act.init v c.sender c.number c.sort c.payload.now
+claimed v (Echo c) = Act.echo v c.sender c.number c.sort c.payload.now
 
 -- The act that a statement states.
 abbrev pub said : Statement → Act
-said (Notify v c) = Act.notify v c
-said (Ack v r c) = Act.ack v r c
-said (Ready v r c) = Act.ready v r c
-said (Deputy v r) = Act.deputy v r
-said (Last v r e) = Act.last v r e
-said (Init v c) = Act.init v c.sender c.number c.sort c.payload.now
-said (Echo v c) = Act.echo v c.sender c.number c.sort c.payload.now
+said s = claimed s.view s.claim
 
 -- The bytes of words.
 abbrev pub text : Words → List ℕ

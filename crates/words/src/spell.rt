@@ -4,7 +4,7 @@ ghost use Rattle.std.specs.Prelude.{◌≡◌, ◌+◌, ◌%◌, ◌≤◌, ◌+
 ghost use Rattle.words.specs.Said.{said, text, Spelt};
 ghost use Rattle.words.specs.Openings.{load, PutTogether, Stated};
 
-use crate::statement::Statement;
+use crate::statement::{Claim, Statement};
 use crate::text::Words;
 use head::number::Head;
 use head::shapes::{carried, entered, graded, noted, ranked};
@@ -31,17 +31,15 @@ impl<'a> Statement<'a> {
     fn head(&self) -> Option<Head>
         ensures { Stated (said self.now) result }
     {
-        match *self {
-            Statement::Notify { view, change } => noted(Kind::Notify, view, change),
-            Statement::Ack { view, rank, change } => graded(Kind::Ack, view, rank, change),
-            Statement::Ready { view, rank, change } => graded(Kind::Ready, view, rank, change),
-            Statement::Deputy { view, rank } => ranked(Kind::Deputy, view, rank),
-            Statement::Last { view, rank, entry } => entered(
-                ranked(Kind::Last, view, rank)?,
-                entry,
-            ),
-            Statement::Init { view, content } => carried(Kind::Init, view, content),
-            Statement::Echo { view, content } => carried(Kind::Echo, view, content),
+        let view = self.view;
+        match self.claim {
+            Claim::Notify { change } => noted(Kind::Notify, view, change),
+            Claim::Ack { rank, change } => graded(Kind::Ack, view, rank, change),
+            Claim::Ready { rank, change } => graded(Kind::Ready, view, rank, change),
+            Claim::Deputy { rank } => ranked(Kind::Deputy, view, rank),
+            Claim::Last { rank, entry } => entered(ranked(Kind::Last, view, rank)?, entry),
+            Claim::Init { content } => carried(Kind::Init, view, content),
+            Claim::Echo { content } => carried(Kind::Echo, view, content),
         }
     }
 
@@ -49,8 +47,8 @@ impl<'a> Statement<'a> {
     fn payload(&self) -> &'a [u8]
         ensures { load (said self.now) ≡ result.now }
     {
-        match *self {
-            Statement::Init { content, .. } | Statement::Echo { content, .. } => content.payload,
+        match self.claim {
+            Claim::Init { content } | Claim::Echo { content } => content.payload,
             _ => &[],
         }
     }

@@ -1,14 +1,21 @@
-// A statement is what a board signs: one of the seven lone kinds, without speaker and tag.
+// A statement is what a board signs for a view: one of the seven lone kinds, without speaker and tag.
 // What a statement is as plain data is `said` in specs/Said.antt.
 use wire::message::{Content, Entry};
 
+// What is stated, whichever view it is for.
 #[derive(Clone, Copy)]
-pub enum Statement<'a> {
-    Notify { view: u8, change: u8 },
-    Ack { view: u8, rank: u8, change: u8 },
-    Ready { view: u8, rank: u8, change: u8 },
-    Deputy { view: u8, rank: u8 },
-    Last { view: u8, rank: u8, entry: Entry },
-    Init { view: u8, content: Content<'a> },
-    Echo { view: u8, content: Content<'a> },
+pub enum Claim<'a> {
+    Notify { change: u8 },
+    Ack { rank: u8, change: u8 },
+    Ready { rank: u8, change: u8 },
+    Deputy { rank: u8 },
+    Last { rank: u8, entry: Entry },
+    Init { content: Content<'a> },
+    Echo { content: Content<'a> },
+}
+
+#[derive(Clone, Copy)]
+pub struct Statement<'a> {
+    pub view: u8,
+    pub claim: Claim<'a>,
 }
