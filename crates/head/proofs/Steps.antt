@@ -33,6 +33,10 @@ nothing g a e = let z : 0 ≡ a.width = sym e in record { form = subst (λ w. bi
 pub named : {a : Head} {w v u : ℕ} {t : Bool} {r : Option Head} → v ≡ u → Joined a w v t r → Joined a w u t r
 named {a} {w} {v} {u} {t} {r} e j = subst (λ x. Joined a w x t r) e j
 
+-- A width under another name.
+pub sized : {a : Head} {w x v : ℕ} {t : Bool} {r : Option Head} → w ≡ x → Joined a w v t r → Joined a x v t r
+sized {a} {w} {x} {v} {t} {r} e j = subst (λ y. Joined a y v t r) e j
+
 -- There is no head, and nothing may stand.
 pub no_head : {g h : Grammar} {is : List Item} {r : Option Head} → r ≡ None → Barred g is → Begins g is h r
 no_head e b = record { holds = λ a f. cc; none = λ _. b }

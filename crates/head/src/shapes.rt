@@ -14,9 +14,7 @@ use wire::message::{Content, Entry, Sort};
 fn opening(kind: Kind, view: u8) -> Option<Head>
     ensures { Opened (kind_number kind) view result }
 {
-    Head::EMPTY
-        .field(4, of_kind(kind))?
-        .of(VIEW, usize::from(view))
+    Head::EMPTY.field(4, of_kind(kind))?.of(VIEW, view as usize)
 }
 
 // The change that a view ends with.
@@ -25,14 +23,14 @@ pub fn noted(kind: Kind, view: u8, change: u8) -> Option<Head>
 {
     opening(kind, view)?
         .of(ZERO, 0)?
-        .of(CHANGE, usize::from(change))
+        .of(CHANGE, change as usize)
 }
 
 // A rank.
 pub fn ranked(kind: Kind, view: u8, rank: u8) -> Option<Head>
     ensures { Ranked (kind_number kind) view rank result }
 {
-    opening(kind, view)?.of(RANK, usize::from(rank))
+    opening(kind, view)?.of(RANK, rank as usize)
 }
 
 // A rank and a change.
@@ -41,7 +39,7 @@ pub fn graded(kind: Kind, view: u8, rank: u8, change: u8) -> Option<Head>
 {
     ranked(kind, view, rank)?
         .of(ZEROS, 0)?
-        .of(CHANGE, usize::from(change))
+        .of(CHANGE, change as usize)
 }
 
 // A content: its sender, number, sort and length, but not the payload itself.
@@ -49,8 +47,8 @@ pub fn carried(kind: Kind, view: u8, content: Content<'_>) -> Option<Head>
     ensures { Carried (kind_number kind) view content.entry result }
 {
     opening(kind, view)?
-        .of(SENDER, usize::from(content.sender))?
-        .of(NUMBER, usize::from(content.number))?
+        .of(SENDER, content.sender as usize)?
+        .of(NUMBER, content.number as usize)?
         .of(SORT, of_sort(content.sort))?
         .of(Field::length(content.sort), content.payload.len())
 }
@@ -59,12 +57,9 @@ pub fn carried(kind: Kind, view: u8, content: Content<'_>) -> Option<Head>
 pub fn entered(head: Head, entry: Entry) -> Option<Head>
     ensures { Entered head entry result }
 {
-    head.of(EARLIER, usize::from(entry.earlier))?
+    head.of(EARLIER, entry.earlier as usize)?
         .of(ZERO, 0)?
-        .of(
-            Field::entry_change(entry.earlier),
-            usize::from(entry.change),
-        )
+        .of(Field::entry_change(entry.earlier), entry.change as usize)
 }
 
 // A function: where the cast is an argument the proof does not know it as the kind's number, and would go through all 13 kinds.

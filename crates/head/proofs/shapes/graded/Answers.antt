@@ -12,8 +12,8 @@ rest g = zeros 5 (change g)
 pub returns-in_err-ranked : goal.returns-in_err-ranked
 returns-in_err-ranked c = stop (Item.num 5 0 ∷ Item.num 3 c.args.change ∷ []) (along rest c.in_err-ranked.ensures) c.from_residual.ensures
 
-pub returns-in_err-with : goal.returns-in_err-with
-returns-in_err-with c = stop (Item.num 3 c.args.change ∷ []) (on (along rest c.in_ok-ranked.ensures) c.in_err-with.ensures refl refl) c.from_residual-in_err-with.ensures
+pub returns-in_err-of : goal.returns-in_err-of
+returns-in_err-of c = stop (Item.num 3 c.args.change ∷ []) (on (along rest c.in_ok-ranked.ensures) c.in_err-of.ensures refl refl) c.from_residual-in_err-of.ensures
 
 pub returns : goal.returns
-returns c = on (on (along rest c.in_ok-ranked.ensures) c.in_ok-with.ensures refl refl) c.with-2.ensures refl refl
+returns c = on (on (along rest c.in_ok-ranked.ensures) c.in_ok-of.ensures refl refl) c.of-2.ensures refl refl

@@ -22,5 +22,5 @@ returns c = record {
       let j = named c.of_kind.ensures c.in_ok-field.ensures in
       let b = c.in_ok-field.field-0 in
       let kind = (step (nothing (table has body) _ refl) j o (omega arith, omega arith)).holds b refl in
-      subst (λ g. Begins (table has body) (opening (kind_number c.args.kind) c.args.view []) g c.with.result) e (step kind c.with.ensures refl (omega arith, omega (arith, wider (j.longer b refl))));
+      subst (λ g. Begins (table has body) (opening (kind_number c.args.kind) c.args.view []) g c.of.result) e (step kind c.of.ensures refl (omega arith, omega (arith, wider (j.longer b refl))));
 }

@@ -10,4 +10,4 @@ pub returns-in_err-opening : goal.returns-in_err-opening
 returns-in_err-opening c = stop (Item.num 4 c.args.rank ∷ []) (along rank c.in_err-opening.ensures) c.from_residual.ensures
 
 pub returns : goal.returns
-returns c = on (along rank c.in_ok-opening.ensures) c.with.ensures refl refl
+returns c = on (along rank c.in_ok-opening.ensures) c.of.ensures refl refl
