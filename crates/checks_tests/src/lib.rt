@@ -11,8 +11,8 @@ mod tests {
     use schemes::register::{Entry as Row, Register};
     use std::process::Abort;
     use std::test::Fail;
-    use wire::message::{Entries, Entry, Message, Replies, Tagged, Tags};
-    use words::statement::Statement;
+    use wire::message::{Body, Entries, Entry, Message, Replies, Spoken, Tagged, Tags};
+    use words::statement::{Claim, Statement};
 
     const NONE: Entry = Entry::NONE;
 
@@ -43,22 +43,26 @@ mod tests {
     }
 
     fn notify() -> Statement<'static> {
-        Statement::Notify { view: 1, change: 2 }
+        Statement {
+            view: 1,
+            claim: Claim::Notify { change: 2 },
+        }
     }
 
     fn answer(entry: Entry) -> Statement<'static> {
-        Statement::Last {
+        Statement {
             view: 1,
-            rank: 4,
-            entry,
+            claim: Claim::Last { rank: 4, entry },
         }
     }
 
     fn ack() -> Statement<'static> {
-        Statement::Ack {
+        Statement {
             view: 1,
-            rank: KEPT.earlier,
-            change: KEPT.change,
+            claim: Claim::Ack {
+                rank: KEPT.earlier,
+                change: KEPT.change,
+            },
         }
     }
 
@@ -73,10 +77,12 @@ mod tests {
 
     // The good boards of a suggest by boards 1 and 3, which sign the same words.
     fn in_suggest<S: Scheme>(scheme: &S, tags: &[u64; 8]) -> u8 {
-        let m = Message::Suggest {
+        let m = Message {
             view: 1,
-            change: 2,
-            by: stored(pair(1, 3), tags),
+            body: Body::Suggest {
+                change: 2,
+                by: stored(pair(1, 3), tags),
+            },
         };
         found(scheme, &m, Part::Signers)
     }
@@ -100,14 +106,16 @@ mod tests {
         acks: &'a [u64; 8],
         part: Part,
     ) -> u8 {
-        let m = Message::SuggestLast {
+        let m = Message {
             view: 1,
-            rank: 4,
-            replies: Replies {
-                set: pair(0, 5),
-                entries: Entries::Stored { entries, tags },
+            body: Body::SuggestLast {
+                rank: 4,
+                replies: Replies {
+                    set: pair(0, 5),
+                    entries: Entries::Stored { entries, tags },
+                },
+                proof: stored(pair(2, 6), acks),
             },
-            proof: stored(pair(2, 6), acks),
         };
         found(scheme, &m, part)
     }
@@ -148,11 +156,15 @@ mod tests {
     }
 
     fn is_notify<S: Scheme>(scheme: &S, tag: &[u8]) -> bool {
-        let m = Message::Notify {
+        let m = Message {
             view: 1,
-            change: 2,
-            speaker: 4,
-            tag: Tags::Heard(tag),
+            body: Body::Notify {
+                change: 2,
+                own: Spoken {
+                    speaker: 4,
+                    tag: Tags::Heard(tag),
+                },
+            },
         };
         all_good(scheme, &m)
     }

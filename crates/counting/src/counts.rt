@@ -15,7 +15,7 @@ use row::state::{Count, Leader, Sent, Slot, Stand};
 use sending::post;
 use signed::tag;
 use views::view::View;
-use wire::message::Message;
+use wire::message::{Body, Message};
 
 // A lone message that is counted, but for its speaker and tag.
 #[derive(Clone, Copy)]
@@ -76,22 +76,13 @@ impl Tally {
         ensures { meaning result ≡ certificate self view count.now }
     {
         let by = count.tagged();
-        match self {
-            Tally::Notify { change } => Message::Suggest { view, change, by },
-            Tally::Ack { rank, change } => Message::Proposal {
-                view,
-                rank,
-                change,
-                by,
-            },
-            Tally::Ready { rank, change } => Message::Change {
-                view,
-                rank,
-                change,
-                by,
-            },
-            Tally::Deputy { rank } => Message::Query { view, rank, by },
-        }
+        let body = match self {
+            Tally::Notify { change } => Body::Suggest { change, by },
+            Tally::Ack { rank, change } => Body::Proposal { rank, change, by },
+            Tally::Ready { rank, change } => Body::Change { rank, change, by },
+            Tally::Deputy { rank } => Body::Query { rank, by },
+        };
+        Message { view, body }
     }
 }
 

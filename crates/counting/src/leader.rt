@@ -3,7 +3,7 @@
 ghost use Rattle.std.specs.Prelude.{◌≡◌, ◌<◌, true, length, slice_set};
 ghost use Rattle.row.specs.Rows.{tells, proves};
 ghost use Rattle.row.specs.States.{counted, place_of};
-ghost use Rattle.row.specs.Effects.{gained, told, undercuts};
+ghost use Rattle.row.specs.Effects.{gained, told};
 ghost use Rattle.counting.specs.Counts.{Tellable};
 
 use row::state::{Count, Leader, Slot};
@@ -35,13 +35,6 @@ pub(crate) fn gained(leader: &Leader, slot: Slot, board: u8, tag: u64) -> Leader
     Leader { counts, ..*leader }
 }
 
-// Whether an entry has a lower earlier rank than any before it.
-fn undercuts(entry: Entry, low: Entry) -> bool
-    ensures { result ≡ undercuts entry low }
-{
-    entry.earlier != 0 && (low.earlier == 0 || entry.earlier < low.earlier)
-}
-
 // The entries with that of one board more. Tried inside `told`: there the length of the entries is not found, and that proof stays open.
 fn with_entry(old: &[Entry; 8], board: u8, entry: Entry) -> [Entry; 8]
     requires { board < 8 }
@@ -68,7 +61,7 @@ pub(crate) fn told(leader: &Leader, board: u8, tag: u64, entry: Entry, proof: Co
         entries: with_entry(&leader.entries, board, entry),
         ..*leader
     };
-    if undercuts(entry, leader.lowest) {
+    if entry.undercuts(leader.lowest) {
         next.lowest = entry;
         next.proof = proof;
     }

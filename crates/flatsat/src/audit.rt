@@ -9,7 +9,7 @@ ghost use Rattle.flatsat.specs.Audits.{keys_of, Judged, has_proof, Audits};
 use checks::{Part, boards_of, good_boards};
 use schemes::keyed::Keyed;
 use script::audit::{Audit, Verdict};
-use wire::message::Message;
+use wire::message::{Body, Message};
 
 // The boards' keys, board 0's first.
 pub(crate) fn keys(bytes: &[u8]) -> [[u8; 16]; 8]
@@ -34,7 +34,7 @@ fn verdict(scheme: &Keyed<'_>, m: &Message<'_>, part: Part) -> Verdict
 fn has_proof(m: &Message<'_>) -> bool
     ensures { result ≡ has_proof (meaning m.now) }
 {
-    matches!(*m, Message::Last { .. } | Message::SuggestLast { .. })
+    matches!(m.body, Body::Last { .. } | Body::SuggestLast { .. })
 }
 
 // The audit of a message under keys.

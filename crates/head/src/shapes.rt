@@ -21,9 +21,8 @@ fn opening(kind: Kind, view: u8) -> Option<Head>
 pub fn noted(kind: Kind, view: u8, change: u8) -> Option<Head>
     ensures { Noted (kind_number kind) view change result }
 {
-    opening(kind, view)?
-        .of(ZERO, 0)?
-        .of(CHANGE, change as usize)
+    let head = opening(kind, view)?;
+    head.of(ZERO, 0)?.of(CHANGE, change as usize)
 }
 
 // A rank.

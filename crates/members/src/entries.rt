@@ -8,8 +8,8 @@ ghost use Rattle.row.specs.Refusals.{misplaced, differs, split};
 ghost use Rattle.members.specs.Told.{entry_of, entry_by, some_told};
 
 use signed::{lowest_entry, statement};
-use wire::message::{Entry, Message};
-use words::statement::Statement;
+use wire::message::{Body, Entry, Message};
+use words::statement::{Claim, Statement};
 
 // Whether an earlier rank is neither 0 nor above the message's rank and at most n.
 pub(crate) fn misplaced(rank: u8, n: u8, entry: Entry) -> bool
@@ -29,8 +29,8 @@ fn differs(low: Entry, entry: Entry) -> bool
 fn entry_of(statement: Statement<'_>) -> Entry
     ensures { result ≡ entry_of (said statement.entry) }
 {
-    match statement {
-        Statement::Last { entry, .. } => entry,
+    match statement.claim {
+        Claim::Last { entry, .. } => entry,
         _ => Entry::NONE,
     }
 }
@@ -68,5 +68,5 @@ fn some_differs(m: &Message<'_>, low: Entry) -> bool
 pub fn split(m: &Message<'_>) -> bool
     ensures { result ≡ split (meaning m.now) }
 {
-    matches!(m, Message::SuggestLast { .. }) && some_differs(m, lowest_entry(m))
+    matches!(m.body, Body::SuggestLast { .. }) && some_differs(m, lowest_entry(m))
 }

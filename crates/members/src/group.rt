@@ -9,7 +9,7 @@ use crate::ranks::{empties, inside, strays};
 use row::row::Row;
 use signed::signers;
 use views::history::LAST;
-use wire::message::Message;
+use wire::message::{Body, Message};
 
 // MEMBER: the row's board (but in a change), a speaker, a set, a proof's set or the rank is not in the view;
 // rank n in kinds 7 to 10; an earlier rank is misplaced.
@@ -20,19 +20,19 @@ pub fn stranger(row: &Row, m: &Message<'_>) -> bool
     let n = view.len();
     let strange = strays(signers(m), &view);
     let beyond = !inside(row) || strange;
-    match *m {
-        Message::Notify { .. } | Message::Suggest { .. } => beyond,
-        Message::Ack { rank, .. } | Message::Proposal { rank, .. } | Message::Ready { rank, .. } =>
+    match m.body {
+        Body::Notify { .. } | Body::Suggest { .. } => beyond,
+        Body::Ack { rank, .. } | Body::Proposal { rank, .. } | Body::Ready { rank, .. } =>
             { beyond || n < rank }
-        Message::Change { rank, .. } => strange || n < rank,
-        Message::Deputy { rank, .. } | Message::Query { rank, .. } => beyond || n <= rank,
-        Message::Last {
+        Body::Change { rank, .. } => strange || n < rank,
+        Body::Deputy { rank, .. } | Body::Query { rank, .. } => beyond || n <= rank,
+        Body::Last {
             rank,
             entry,
             proof,
             ..
         } => { beyond || strays(proof.set, &view) || n <= rank || misplaced(rank, n, entry) }
-        Message::SuggestLast { rank, proof, .. } => {
+        Body::SuggestLast { rank, proof, .. } => {
             beyond || strays(proof.set, &view) || n <= rank || some_misplaced(m, rank, n)
         }
         _ => false,
@@ -44,17 +44,17 @@ pub fn barred(row: &Row, m: &Message<'_>) -> bool
     ensures { result ≡ barred row.now.state (meaning m.now) }
 {
     let last = row.latest() >= LAST;
-    match *m {
-        Message::Notify { change, .. }
-        | Message::Suggest { change, .. }
-        | Message::Ack { change, .. }
-        | Message::Proposal { change, .. }
-        | Message::Ready { change, .. }
-        | Message::Change { change, .. } => last || empties(row, change),
-        Message::Deputy { .. }
-        | Message::Query { .. }
-        | Message::Last { .. }
-        | Message::SuggestLast { .. } => last,
+    match m.body {
+        Body::Notify { change, .. }
+        | Body::Suggest { change, .. }
+        | Body::Ack { change, .. }
+        | Body::Proposal { change, .. }
+        | Body::Ready { change, .. }
+        | Body::Change { change, .. } => last || empties(row, change),
+        Body::Deputy { .. }
+        | Body::Query { .. }
+        | Body::Last { .. }
+        | Body::SuggestLast { .. } => last,
         _ => false,
     }
 }

@@ -6,7 +6,7 @@ ghost use Rattle.row.specs.Refusals.{misfit, odd_proof};
 
 use boards::Set;
 use row::row::Row;
-use wire::message::Message;
+use wire::message::{Body, Message};
 
 // Whether a proof has boards, and not a quorum of them.
 fn odd_proof(row: &Row, proof: Set) -> bool
@@ -20,12 +20,12 @@ pub fn misfit(row: &Row, m: &Message<'_>) -> bool
     ensures { result ≡ misfit row.now.state (meaning m.now) }
 {
     let quorum = row.view().quorum();
-    match *m {
-        Message::Suggest { by, .. } | Message::Query { by, .. } => by.set.len()
+    match m.body {
+        Body::Suggest { by, .. } | Body::Query { by, .. } => by.set.len()
             != row.view().one_correct(),
-        Message::Proposal { by, .. } | Message::Change { by, .. } => by.set.len() != quorum,
-        Message::Last { proof, .. } => odd_proof(row, proof.set),
-        Message::SuggestLast { replies, proof, .. } => replies.set.len() != quorum
+        Body::Proposal { by, .. } | Body::Change { by, .. } => by.set.len() != quorum,
+        Body::Last { proof, .. } => odd_proof(row, proof.set),
+        Body::SuggestLast { replies, proof, .. } => replies.set.len() != quorum
             || odd_proof(row, proof.set),
         _ => false,
     }

@@ -13,7 +13,7 @@ use row::state::Sent;
 use schemes::Scheme;
 use seats::insert;
 use sending::say;
-use words::statement::Statement;
+use words::statement::{Claim, Statement};
 
 // The highest member that is not suspect: there is one, since a row never suspects its own board.
 fn trusted(row: &Row, suspects: Set) -> u8
@@ -37,9 +37,9 @@ pub(crate) fn notify<S: Scheme>(row: &Row, scheme: &mut S, change: u8, out: &mut
     requires board { change < 8 }
     ensures { Done S.Scheme row.now.state.board (notifies row.now.state change) out.old scheme.old result scheme.new out.new }
 {
-    let statement = Statement::Notify {
+    let statement = Statement {
         view: row.latest(),
-        change,
+        claim: Claim::Notify { change },
     };
     say(
         scheme,
@@ -58,9 +58,9 @@ fn deputise<S: Scheme>(row: &Row, scheme: &mut S, board: u8, out: &mut [u8]) -> 
     ensures { Done S.Scheme row.now.state.board (deputises row.now.state board) out.old scheme.old result scheme.new out.new }
 {
     let rank = row.view().rank(board).unwrap();
-    let statement = Statement::Deputy {
+    let statement = Statement {
         view: row.latest(),
-        rank,
+        claim: Claim::Deputy { rank },
     };
     say(scheme, row.board(), statement, Set::only(board), out).unwrap()
 }

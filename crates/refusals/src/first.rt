@@ -28,7 +28,7 @@ pub fn may_hear(
 {
     if room < ENOUGH {
         Err(Refusal::Out)
-    } else if m.view() != row.latest() {
+    } else if m.view != row.latest() {
         Err(Refusal::View)
     } else if stranger(row, m) {
         Err(Refusal::Member)

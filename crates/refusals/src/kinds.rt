@@ -4,15 +4,15 @@ ghost use Rattle.std.specs.Prelude.{◌≡◌};
 ghost use Rattle.wire.specs.Messages.{meaning};
 ghost use Rattle.row.specs.Refusals.{answered, of_group};
 
-use wire::message::Message;
+use wire::message::{Body, Message};
 
 // Whether a message is of the layer that changes the group: kinds 1 to 10.
 pub fn of_group(m: &Message<'_>) -> bool
     ensures { result ≡ of_group (meaning m.now) }
 {
     !matches!(
-        m,
-        Message::Init { .. } | Message::Echo { .. } | Message::Commit { .. }
+        m.body,
+        Body::Init { .. } | Body::Echo { .. } | Body::Commit { .. }
     )
 }
 
@@ -21,10 +21,10 @@ pub fn answered(m: &Message<'_>) -> bool
     ensures { result ≡ answered (meaning m.now) }
 {
     matches!(
-        m,
-        Message::Suggest { .. }
-            | Message::Proposal { .. }
-            | Message::Query { .. }
-            | Message::SuggestLast { .. }
+        m.body,
+        Body::Suggest { .. }
+            | Body::Proposal { .. }
+            | Body::Query { .. }
+            | Body::SuggestLast { .. }
     )
 }

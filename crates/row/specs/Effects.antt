@@ -6,7 +6,7 @@ use Rattle.views.specs.Histories.{grown}
 use Rattle.views.specs.Shares.{share, quorum}
 use Rattle.wire.specs.declared.message.Entry.{Entry}
 use Rattle.wire.specs.Messages.{Msg, stored_tags, stored_replies}
-use Rattle.wire.specs.Acts.{Act, lowest, tag_of, tag_at, tag_number}
+use Rattle.wire.specs.Acts.{Act, undercuts, lowest, tag_of, tag_at, tag_number}
 use Rattle.row.specs.declared.state.Count.{Count}
 use Rattle.row.specs.declared.state.Slot.{Slot}
 use Rattle.row.specs.declared.state.Stand.{Stand}
@@ -98,10 +98,6 @@ gained l w b t = record { stand = l.stand; counts = slice_set l.counts (place_of
 
 abbrev pub standing : Leader → Stand → Leader
 standing l w = record { stand = w; counts = l.counts; entries = l.entries; lowest = l.lowest; proof = l.proof }
-
--- Whether a last's entry has a lower earlier rank than any before it.
-abbrev pub undercuts : Entry → Entry → Bool
-undercuts e low = not (e.earlier == 0) && (low.earlier == 0 || nat_lt e.earlier low.earlier)
 
 -- A leader with one last more: its entry, and its proof if its earlier rank is the lowest so far.
 abbrev pub told : Leader → ℕ → ℕ → Entry → Count → Leader

@@ -14,8 +14,8 @@ use boards::Set;
 use layout::lay::lay_out;
 use row::state::{Count, ENOUGH, Sent};
 use schemes::Scheme;
-use wire::message::{Message, Tags};
-use words::statement::Statement;
+use wire::message::{Body, Message, Spoken, Tags};
+use words::statement::{Claim, Statement};
 use writer::write;
 
 // Whether there are bytes that spell a message.
@@ -40,48 +40,27 @@ fn lone<'a>(statement: &Statement<'a>, board: u8, shown: &'a Count, tag: u64) ->
     ensures { meaning result ≡ lone (said statement.now) board shown.now.set.bits (count_tags shown.now) (tag_bytes tag) }
 {
     let tag = Tags::Fresh(tag);
-    match *statement {
-        Statement::Notify { view, change } => Message::Notify {
-            view,
-            change,
-            speaker: board,
-            tag,
-        },
-        Statement::Ack { view, rank, change } => Message::Ack {
-            view,
+    let own = Spoken {
+        speaker: board,
+        tag,
+    };
+    let body = match statement.claim {
+        Claim::Notify { change } => Body::Notify { change, own },
+        Claim::Ack { rank, change } => Body::Ack { rank, change, own },
+        Claim::Ready { rank, change } => Body::Ready { rank, change, own },
+        Claim::Deputy { rank } => Body::Deputy { rank, own },
+        Claim::Last { rank, entry } => Body::Last {
             rank,
-            change,
-            speaker: board,
-            tag,
-        },
-        Statement::Ready { view, rank, change } => Message::Ready {
-            view,
-            rank,
-            change,
-            speaker: board,
-            tag,
-        },
-        Statement::Deputy { view, rank } => Message::Deputy {
-            view,
-            rank,
-            speaker: board,
-            tag,
-        },
-        Statement::Last { view, rank, entry } => Message::Last {
-            view,
-            rank,
-            speaker: board,
             entry,
-            tag,
+            own,
             proof: shown.tagged(),
         },
-        Statement::Init { view, content } => Message::Init { view, content, tag },
-        Statement::Echo { view, content } => Message::Echo {
-            view,
-            content,
-            speaker: board,
-            tag,
-        },
+        Claim::Init { content } => Body::Init { content, tag },
+        Claim::Echo { content } => Body::Echo { content, own },
+    };
+    Message {
+        view: statement.view,
+        body,
     }
 }
 

@@ -9,7 +9,7 @@ ghost use Rattle.row.specs.Refusals.{untimely, late, known, counted_already};
 
 use row::row::Row;
 use row::state::{Slot, Stand};
-use wire::message::Message;
+use wire::message::{Body, Message};
 
 // Whether the row's board has this rank in the latest view.
 fn at_rank(row: &Row, rank: u8) -> bool
@@ -23,14 +23,14 @@ pub fn untimely(row: &Row, m: &Message<'_>) -> bool
     ensures { result ≡ untimely row.now.state (meaning m.now) }
 {
     let stand = row.state.leader.stand;
-    match *m {
-        Message::Notify { .. } => !(at_rank(row, row.view().len()) && stand == Stand::Idle),
-        Message::Ack { rank, change, .. } => !(at_rank(row, rank)
+    match m.body {
+        Body::Notify { .. } => !(at_rank(row, row.view().len()) && stand == Stand::Idle),
+        Body::Ack { rank, change, .. } => !(at_rank(row, rank)
             && stand == Stand::Acks { change }),
-        Message::Ready { rank, change, .. } => !(at_rank(row, rank)
+        Body::Ready { rank, change, .. } => !(at_rank(row, rank)
             && stand == Stand::Readies { change }),
-        Message::Deputy { rank, .. } => !(at_rank(row, rank) && stand == Stand::Idle),
-        Message::Last { rank, .. } => !(at_rank(row, rank) && stand == Stand::Lasts),
+        Body::Deputy { rank, .. } => !(at_rank(row, rank) && stand == Stand::Idle),
+        Body::Last { rank, .. } => !(at_rank(row, rank) && stand == Stand::Lasts),
         _ => false,
     }
 }
@@ -47,11 +47,11 @@ pub fn late(row: &Row, m: &Message<'_>) -> bool
     ensures { result ≡ late row.now.state (meaning m.now) }
 {
     let floor = row.state.voter.floor as u16;
-    match *m {
-        Message::Suggest { .. } => floor <= step(row.view().len(), 1),
-        Message::Proposal { rank, .. } => floor <= step(rank, 2),
-        Message::Query { rank, .. } => floor <= step(rank, 0),
-        Message::SuggestLast { rank, .. } => floor <= step(rank, 1),
+    match m.body {
+        Body::Suggest { .. } => floor <= step(row.view().len(), 1),
+        Body::Proposal { rank, .. } => floor <= step(rank, 2),
+        Body::Query { rank, .. } => floor <= step(rank, 0),
+        Body::SuggestLast { rank, .. } => floor <= step(rank, 1),
         _ => false,
     }
 }
@@ -67,16 +67,12 @@ fn counted_already(row: &Row, slot: Slot, board: u8) -> bool
 pub fn known(row: &Row, m: &Message<'_>) -> bool
     ensures { result ≡ known row.now.state (meaning m.now) }
 {
-    match *m {
-        Message::Notify {
-            change,
-            speaker,
-            ..
-        } => counted_already(row, Slot::Notify(change), speaker),
-        Message::Ack { speaker, .. } => counted_already(row, Slot::Ack, speaker),
-        Message::Ready { speaker, .. } => counted_already(row, Slot::Ready, speaker),
-        Message::Deputy { speaker, .. } => counted_already(row, Slot::Deputy, speaker),
-        Message::Last { speaker, .. } => counted_already(row, Slot::Last, speaker),
+    match m.body {
+        Body::Notify { change, own } => counted_already(row, Slot::Notify(change), own.speaker),
+        Body::Ack { own, .. } => counted_already(row, Slot::Ack, own.speaker),
+        Body::Ready { own, .. } => counted_already(row, Slot::Ready, own.speaker),
+        Body::Deputy { own, .. } => counted_already(row, Slot::Deputy, own.speaker),
+        Body::Last { own, .. } => counted_already(row, Slot::Last, own.speaker),
         _ => false,
     }
 }

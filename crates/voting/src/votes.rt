@@ -23,8 +23,8 @@ use schemes::Scheme;
 use seats::{called_for, seat};
 use sending::{say, speak};
 use signed::lowest_entry;
-use wire::message::Message;
-use words::statement::Statement;
+use wire::message::{Body, Message};
+use words::statement::{Claim, Statement};
 
 // Row, scheme and bytes stay three parameters: of a struct of three `&mut` each contract would have to name what lies behind every field.
 // Ranks and boards come as the plain numbers of the format: the rules compare them with 0 and with n, and a type would be taken apart
@@ -37,10 +37,9 @@ fn ack<S: Scheme>(row: &mut Row, scheme: &mut S, rank: u8, change: u8, out: &mut
     requires asked { (1 ≤ rank) × (rank ≤ 8) × (change < 8) }
     ensures { Did S.Scheme (with_floor row.old.state (3 * rank - 1), acks row.old.state rank change) row.old.state scheme.old out.old result row.new.state scheme.new out.new }
 {
-    let statement = Statement::Ack {
+    let statement = Statement {
         view: row.latest(),
-        rank,
-        change,
+        claim: Claim::Ack { rank, change },
     };
     let sent = say(scheme, row.board(), statement, seat(row, rank), out).unwrap();
     row.state.voter.floor = 3 * rank - 1;
@@ -64,10 +63,9 @@ fn ready<S: Scheme>(
     requires some { 1 ≤ size set.bits }
     ensures { Did S.Scheme (keeping row.old.state rank change (meaning m.now) set.bits, readies row.old.state rank change) row.old.state scheme.old out.old result row.new.state scheme.new out.new }
 {
-    let statement = Statement::Ready {
+    let statement = Statement {
         view: row.latest(),
-        rank,
-        change,
+        claim: Claim::Ready { rank, change },
     };
     let sent = say(scheme, row.board(), statement, seat(row, rank), out).unwrap();
     row.state.voter = Voter {
@@ -86,10 +84,10 @@ fn last<S: Scheme>(row: &mut Row, scheme: &mut S, rank: u8, out: &mut [u8]) -> S
     requires asked { (1 ≤ rank) × (rank ≤ 8) }
     ensures { Did S.Scheme (with_floor row.old.state (3 * rank), tells row.old.state rank) row.old.state scheme.old out.old result row.new.state scheme.new out.new }
 {
-    let statement: Statement<'static> = Statement::Last {
+    let entry = kept_entry(row);
+    let statement: Statement<'static> = Statement {
         view: row.latest(),
-        rank,
-        entry: kept_entry(row),
+        claim: Claim::Last { rank, entry },
     };
     let proof = shown(row);
     let sent = speak(scheme, row.board(), statement, &proof, seat(row, rank), out).unwrap();
@@ -102,16 +100,11 @@ fn accepted<S: Scheme>(row: &mut Row, scheme: &mut S, m: &Message<'_>, out: &mut
     requires { Taken S.Scheme row.old.state scheme.old (meaning m.now) (length out.old) }
     ensures { Did S.Scheme (heard row.old.state (meaning m.now)) row.old.state scheme.old out.old result row.new.state scheme.new out.new }
 {
-    match *m {
-        Message::Suggest { change, .. } => ack(row, scheme, row.view().len(), change, out),
-        Message::Proposal {
-            rank,
-            change,
-            by,
-            ..
-        } => ready(row, scheme, m, rank, change, by.set, out),
-        Message::Query { rank, .. } => last(row, scheme, rank, out),
-        Message::SuggestLast { rank, .. } => {
+    match m.body {
+        Body::Suggest { change, .. } => ack(row, scheme, row.view().len(), change, out),
+        Body::Proposal { rank, change, by } => ready(row, scheme, m, rank, change, by.set, out),
+        Body::Query { rank, .. } => last(row, scheme, rank, out),
+        Body::SuggestLast { rank, .. } => {
             let change = called_for(row, lowest_entry(m));
             ack(row, scheme, rank, change, out)
         }

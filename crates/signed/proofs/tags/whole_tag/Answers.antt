@@ -14,10 +14,10 @@ pub returns-in_default : goal.returns-in_default
 returns-in_default c =
     let b = c.args.board in
     let r = c.tag_by.result in
-    let told : TagIs (only c.args.speaker) b (tag_at (place (only c.args.speaker) b) (tags_of (only c.args.speaker) c.args.tags)) r =
-    subst (λ (s : ℕ). TagIs s b (tag_at (place s b) (tags_of s c.args.tags)) r) c.alone.ensures.set
-    (subst (λ (t : Tags). TagIs c.alone.result.set.bits b (tag_at (place c.alone.result.set.bits b) (tags_of c.alone.result.set.bits t)) r) c.alone.ensures.tags c.tag_by.ensures) in
+    let told : TagIs (only c.args.own.speaker) b (tag_at (place (only c.args.own.speaker) b) (tags_of (only c.args.own.speaker) c.args.own.tag)) r =
+    subst (λ (s : ℕ). TagIs s b (tag_at (place s b) (tags_of s c.args.own.tag)) r) c.tagged.ensures.set
+    (subst (λ (t : Tags). TagIs c.tagged.result.set.bits b (tag_at (place c.tagged.result.set.bits b) (tags_of c.tagged.result.set.bits t)) r) c.tagged.ensures.tags c.tag_by.ensures) in
     elim c.in_default.branch [
-      | in_default-via-in-Heard+else-bytes-ne8 w ↦ whole_alone c.args.speaker b _ r (λ _. ap (λ t. length (tags_of (only c.args.speaker) t)) w.in-Heard.is ∙ w.if-bytes-ne8.false) told
-      | in_default-via-in_default w ↦ whole_alone c.args.speaker b _ r (alone_long c.args.speaker b c.args.tags w.in_default.not-Heard) told
+      | in_default-via-in-Heard+else-bytes-ne8 w ↦ whole_alone c.args.own.speaker b _ r (λ _. ap (λ t. length (tags_of (only c.args.own.speaker) t)) w.in-Heard.is ∙ w.if-bytes-ne8.false) told
+      | in_default-via-in_default w ↦ whole_alone c.args.own.speaker b _ r (alone_long c.args.own.speaker b c.args.own.tag w.in_default.not-Heard) told
     ]
