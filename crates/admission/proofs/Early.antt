@@ -1,4 +1,4 @@
--- A reason that comes before TAG and SPENT is the first one whatever the tags and the scheme are.
+-- A reason that comes before TAG and SPENT is the first one whatever the tags and the scheme are; where there is none, tags and scheme decide.
 -- Of a message that is taken no reason holds.
 use Rattle.std.proofs.Common.{◌≡◌, ℕ, Bool, true, false, cond, not, ◌&&◌, List, [], ◌∷◌, is_some, Some, None, Option, refl, ap}
 use Rattle.std.proofs.lemmas.Bool.{both_ways}
@@ -8,35 +8,16 @@ use Rattle.wire.specs.Messages.{Msg}
 use Rattle.row.specs.declared.state.State.{State}
 use Rattle.row.specs.Refusals.{first_of, short, other_view, stranger, barred, untimely, late, known, misfit, split, answered, hear_refusal}
 
--- The reasons before the tags, in their order, and what comes after them.
-abbrev reasons : List (Bool × Refusal) → Option Refusal → Option Refusal
-reasons [] x = x
-reasons (r ∷ rs) x = cond r.0 (Some r.1) (reasons rs x)
+-- Of two lists of reasons the second is asked where no reason of the first holds.
+pub early : (rs ss : List (Bool × Refusal)) (e : Refusal) → first_of rs ≡ Some e → first_of (rs ++ ss) ≡ Some e
+early [] ss e h = cc
+early ((true, d) ∷ rs) ss e h = h
+early ((false, d) ∷ rs) ss e h = early rs ss e h
 
--- What one of them answers, it answers whatever comes after them.
-pick : (b : Bool) (e d : Refusal) (x y : Option Refusal) → (x ≡ Some e → y ≡ Some e) → cond b (Some d) x ≡ Some e → cond b (Some d) y ≡ Some e
-pick true e d x y h s = s
-pick false e d x y h s = h s
-
-before : (rs : List (Bool × Refusal)) (x y : Option Refusal) (e : Refusal) → is_some x ≡ false → reasons rs x ≡ Some e → reasons rs y ≡ Some e
-before [] x y e n s = absurd (both_ways (is_some x) n (ap is_some s))
-before (r ∷ rs) x y e n s = pick r.0 e r.1 (reasons rs x) (reasons rs y) (before rs x y e n) s
-
--- The reasons after them.
-abbrev tail_of : Bool → Bool → Bool → Option Refusal
-tail_of w genuine spent = first_of ((not genuine, Tag) ∷ (w && spent, Spent) ∷ [])
-
-no_tail : (w : Bool) → is_some (tail_of w true false) ≡ false
-no_tail true = refl
-no_tail false = refl
-
--- A reason that holds whatever the tags are.
-pub early : (s : State) (m : Msg) (room : ℕ) (genuine spent : Bool) (e : Refusal) → hear_refusal s m room true false ≡ Some e → hear_refusal s m room genuine spent ≡ Some e
-early s m room genuine spent e =
-    before (
-    (short room, Out) ∷ (other_view s m, View) ∷ (stranger s m, Member) ∷ (barred s m, Change) ∷ (untimely s m, Turn) ∷ (late s m, Late)
-    ∷ (known s m, Known) ∷ (misfit s m, Size) ∷ (split m, Split) ∷ [])
-    (tail_of (answered m) true false) (tail_of (answered m) genuine spent) e (no_tail (answered m))
+pub then : (rs ss : List (Bool × Refusal)) → first_of rs ≡ None → first_of (rs ++ ss) ≡ first_of ss
+then [] ss h = refl
+then ((true, d) ∷ rs) ss h = cc
+then ((false, d) ∷ rs) ss h = then rs ss h
 
 -- What a message passed that is taken.
 pub record Passed (s : State) (m : Msg) (room : ℕ) (genuine spent : Bool) : Type 0 where

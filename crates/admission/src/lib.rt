@@ -10,7 +10,7 @@ ghost use Rattle.admission.specs.Judged.{Judged};
 
 use checks::all_good;
 use codes::Refusal;
-use refusals::first::may_hear;
+use refusals::first::{may_hear, may_trust};
 use refusals::kinds::of_group;
 use row::row::Row;
 use schemes::Scheme;
@@ -22,8 +22,8 @@ fn may_take<S: Scheme>(row: &Row, scheme: &S, m: &Message<'_>, room: usize) -> R
     requires { Formed (meaning m.now) }
     ensures { Unless (hear_refusal row.now.state (meaning m.now) room (genuine (S.good scheme.now) (meaning m.now)) (S.spent scheme.now)) result }
 {
-    may_hear(row, m, room, true, false)?;
-    may_hear(row, m, room, all_good(scheme, m), scheme.is_spent())
+    may_hear(row, m, room)?;
+    may_trust(m, all_good(scheme, m), scheme.is_spent())
 }
 
 // Why the row does not take the message, or that it does; nothing if the message is not formed or of another layer.

@@ -22,8 +22,9 @@ pub fn stranger(row: &Row, m: &Message<'_>) -> bool
     let beyond = !inside(row) || strange;
     match m.body {
         Body::Notify { .. } | Body::Suggest { .. } => beyond,
-        Body::Ack { rank, .. } | Body::Proposal { rank, .. } | Body::Ready { rank, .. } =>
-            { beyond || n < rank }
+        Body::Ack { rank, .. } | Body::Proposal { rank, .. } | Body::Ready { rank, .. } => {
+            beyond || n < rank
+        }
         Body::Change { rank, .. } => strange || n < rank,
         Body::Deputy { rank, .. } | Body::Query { rank, .. } => beyond || n <= rank,
         Body::Last {
@@ -51,10 +52,8 @@ pub fn barred(row: &Row, m: &Message<'_>) -> bool
         | Body::Proposal { change, .. }
         | Body::Ready { change, .. }
         | Body::Change { change, .. } => last || empties(row, change),
-        Body::Deputy { .. }
-        | Body::Query { .. }
-        | Body::Last { .. }
-        | Body::SuggestLast { .. } => last,
+        Body::Deputy { .. } | Body::Query { .. } | Body::Last { .. } | Body::SuggestLast { .. } =>
+            last,
         _ => false,
     }
 }

@@ -2,7 +2,7 @@
 // Order: docs/REFUSALS.md. Each list stands as one chain of tests, as it stands there; early returns would say no more.
 ghost use Rattle.std.specs.Prelude.{◌≡◌};
 ghost use Rattle.wire.specs.Messages.{meaning};
-ghost use Rattle.row.specs.Refusals.{hear_refusal, out_refusal, in_refusal, Unless};
+ghost use Rattle.row.specs.Refusals.{first_of, fit_reasons, seal_reasons, out_refusal, in_refusal, Unless};
 
 use crate::kinds::answered;
 use codes::Refusal;
@@ -16,15 +16,9 @@ use turns::{known, late, untimely};
 use views::history::LAST;
 use wire::message::Message;
 
-// Whether a row may take a message, or why not: `genuine` says whether every tag of it is good, `spent` whether the scheme is.
-pub fn may_hear(
-    row: &Row,
-    m: &Message<'_>,
-    room: usize,
-    genuine: bool,
-    spent: bool,
-) -> Result<(), Refusal>
-    ensures { Unless (hear_refusal row.now.state (meaning m.now) room genuine spent) result }
+// Whether a message is one that a row may take if its tags are good, or why not.
+pub fn may_hear(row: &Row, m: &Message<'_>, room: usize) -> Result<(), Refusal>
+    ensures { Unless (first_of (fit_reasons row.now.state (meaning m.now) room)) result }
 {
     if room < ENOUGH {
         Err(Refusal::Out)
@@ -44,7 +38,17 @@ pub fn may_hear(
         Err(Refusal::Size)
     } else if split(m) {
         Err(Refusal::Split)
-    } else if !genuine {
+    } else {
+        Ok(())
+    }
+}
+
+// Whether such a message may be taken, or why not: `genuine` says whether every tag of it is good, `spent` whether the scheme is.
+// A list of its own, since the tags cost the most and are looked at only where no reason before them holds.
+pub fn may_trust(m: &Message<'_>, genuine: bool, spent: bool) -> Result<(), Refusal>
+    ensures { Unless (first_of (seal_reasons (meaning m.now) genuine spent)) result }
+{
+    if !genuine {
         Err(Refusal::Tag)
     } else if answered(m) && spent {
         Err(Refusal::Spent)

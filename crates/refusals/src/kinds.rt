@@ -22,9 +22,6 @@ pub fn answered(m: &Message<'_>) -> bool
 {
     matches!(
         m.body,
-        Body::Suggest { .. }
-            | Body::Proposal { .. }
-            | Body::Query { .. }
-            | Body::SuggestLast { .. }
+        Body::Suggest { .. } | Body::Proposal { .. } | Body::Query { .. } | Body::SuggestLast { .. }
     )
 }

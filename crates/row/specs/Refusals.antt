@@ -1,6 +1,6 @@
 -- Why a call at a row is refused: each reason is a test of its own, and the answer is the first that holds, in the order of docs/REFUSALS.md.
 -- Messages of kinds 11 to 13 are not of this layer; no test speaks of them.
-use Rattle.std.specs.Prelude.{◌≡◌, ℕ, ◌+◌, ◌-◌, ◌*◌, Bool, true, false, cond, not, ◌&&◌, ◌||◌, List, [], ◌∷◌, Some, None, Option, Ok, Err, Result, ◌==◌, nat_le, nat_lt, slice_index_or}
+use Rattle.std.specs.Prelude.{◌≡◌, ℕ, ◌+◌, ◌-◌, ◌*◌, Bool, true, false, cond, not, ◌&&◌, ◌||◌, List, [], ◌∷◌, ◌++◌, Some, None, Option, Ok, Err, Result, ◌==◌, nat_le, nat_lt, slice_index_or}
 use Rattle.boards.specs.Boards.{member, size, place, only}
 use Rattle.codes.specs.declared.Refusal.{Refusal}
 use Rattle.codes.specs.declared.Refusal.TheVariants.{Board, Out, View, Member, Change, Turn, Late, Known, Size, Split, Tag, Spent}
@@ -203,12 +203,19 @@ of_group (Msg.init v b n k p t) = false
 of_group (Msg.echo v b n k p d t) = false
 of_group (Msg.commit v b n k p a t) = false
 
--- A hear: genuine says whether every tag of the message is good, spent whether the scheme is.
-abbrev pub hear_refusal : State → Msg → ℕ → Bool → Bool → Option Refusal
-hear_refusal s m room genuine spent =
-    first_of (
+-- What may stand against a hear before the tags are looked at.
+abbrev pub fit_reasons : State → Msg → ℕ → List (Bool × Refusal)
+fit_reasons s m room =
     (short room, Out) ∷ (other_view s m, View) ∷ (stranger s m, Member) ∷ (barred s m, Change) ∷ (untimely s m, Turn) ∷ (late s m, Late)
-    ∷ (known s m, Known) ∷ (misfit s m, Size) ∷ (split m, Split) ∷ (not genuine, Tag) ∷ (answered m && spent, Spent) ∷ [])
+    ∷ (known s m, Known) ∷ (misfit s m, Size) ∷ (split m, Split) ∷ []
+
+-- What tags and scheme may have against it: genuine says whether every tag of the message is good, spent whether the scheme is.
+abbrev pub seal_reasons : Msg → Bool → Bool → List (Bool × Refusal)
+seal_reasons m genuine spent = (not genuine, Tag) ∷ (answered m && spent, Spent) ∷ []
+
+-- A hear.
+abbrev pub hear_refusal : State → Msg → ℕ → Bool → Bool → Option Refusal
+hear_refusal s m room genuine spent = first_of (fit_reasons s m room ++ seal_reasons m genuine spent)
 
 -- An ask-out of c: c is another member.
 abbrev pub out_refusal : State → ℕ → ℕ → Bool → Option Refusal

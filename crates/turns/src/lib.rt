@@ -25,8 +25,7 @@ pub fn untimely(row: &Row, m: &Message<'_>) -> bool
     let stand = row.state.leader.stand;
     match m.body {
         Body::Notify { .. } => !(at_rank(row, row.view().len()) && stand == Stand::Idle),
-        Body::Ack { rank, change, .. } => !(at_rank(row, rank)
-            && stand == Stand::Acks { change }),
+        Body::Ack { rank, change, .. } => !(at_rank(row, rank) && stand == Stand::Acks { change }),
         Body::Ready { rank, change, .. } => !(at_rank(row, rank)
             && stand == Stand::Readies { change }),
         Body::Deputy { rank, .. } => !(at_rank(row, rank) && stand == Stand::Idle),

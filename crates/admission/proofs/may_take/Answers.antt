@@ -1,9 +1,10 @@
--- A reason before the tags is the first whatever the tags are.
--- From the law of the order of reasons.
+-- A reason before the tags is the first whatever the tags are; where there is none, tags and scheme decide.
+-- From the law of two lists of reasons.
 use Rattle.std.proofs.lemmas.Result.{err_from_is_err_and}
 use Rattle.checks.specs.Checks.{genuine}
 use Rattle.wire.specs.Messages.{meaning}
-use Rattle.admission.proofs.Early.{early}
+use Rattle.row.specs.Refusals.{fit_reasons, seal_reasons}
+use Rattle.admission.proofs.Early.{early, then}
 use Rattle.admission.proofs.may_take.Goals as goal
 
 pub returns-in_err-may_hear : goal.returns-in_err-may_hear
@@ -11,4 +12,4 @@ returns-in_err-may_hear g c =
     let m = meaning c.args.m.now in
     let s = c.args.scheme.now in
     let p = err_from_is_err_and c.from_residual.result c.from_residual.ensures.1 in
-    rw (p.1, p.2) (early c.args.row.now.state m c.args.room (genuine (g.S.Scheme.good s) m) (g.S.Scheme.spent s) _ c.in_err-may_hear.ensures)
+    rw (p.1, p.2) (early (fit_reasons c.args.row.now.state m c.args.room) (seal_reasons m (genuine (g.S.Scheme.good s) m) (g.S.Scheme.spent s)) _ c.in_err-may_hear.ensures)
