@@ -16,7 +16,8 @@ use wire::message::Message;
 use words::statement::Statement;
 
 // The two parts of a message that have tags: its signers', and those of the proof that lasts and suggest-lasts carry.
-#[derive(Clone, Copy, PartialEq, Eq)]
+// An enum, not a closure: which boards, which statement and which tag go together, and every check below is said once for both parts.
+#[derive(Clone, Copy, Debug, PartialEq, Eq)]
 pub enum Part {
     Signers,
     Proof,

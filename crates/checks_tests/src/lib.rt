@@ -67,16 +67,16 @@ mod tests {
     }
 
     // The good boards of a part; the part's own set if the whole message is good.
-    fn found<S: Scheme>(scheme: &S, m: &Message<'_>, part: Part) -> u8 {
+    fn found<S: Scheme>(scheme: &S, m: &Message<'_>, part: Part) -> Set {
         if all_good(scheme, m) {
-            boards_of(m, part).bits
+            boards_of(m, part)
         } else {
-            good_boards(scheme, m, part).bits
+            good_boards(scheme, m, part)
         }
     }
 
     // The good boards of a suggest by boards 1 and 3, which sign the same words.
-    fn in_suggest<S: Scheme>(scheme: &S, tags: &[u64; 8]) -> u8 {
+    fn in_suggest<S: Scheme>(scheme: &S, tags: &[u64; 8]) -> Set {
         let m = Message {
             view: 1,
             body: Body::Suggest {
@@ -93,8 +93,8 @@ mod tests {
         let third = signed(scheme, 3, notify())?;
         let own = [0, first, 0, third, 0, 0, 0, 0];
         let forged = [0, third, 0, third, 0, 0, 0, 0];
-        assert_eq!(rt; in_suggest(scheme, &own), pair(1, 3).bits);
-        assert_eq!(rt; in_suggest(scheme, &forged), Set::only(3).bits);
+        assert_eq!(rt; in_suggest(scheme, &own), pair(1, 3));
+        assert_eq!(rt; in_suggest(scheme, &forged), Set::only(3));
         Ok(())
     }
 
@@ -105,7 +105,7 @@ mod tests {
         tags: &'a [u64; 8],
         acks: &'a [u64; 8],
         part: Part,
-    ) -> u8 {
+    ) -> Set {
         let m = Message {
             view: 1,
             body: Body::SuggestLast {
@@ -133,16 +133,19 @@ mod tests {
         let forged = [0, 0, sixth, 0, 0, 0, sixth, 0];
         assert_eq!(rt;
             in_last(scheme, &entries, &tags, &acks, Part::Signers),
-            pair(0, 5).bits
+            pair(0, 5)
         );
         assert_eq!(rt;
             in_last(scheme, &entries, &tags, &acks, Part::Proof),
-            pair(2, 6).bits
+            pair(2, 6)
         );
-        assert_eq!(rt; in_last(scheme, &other, &tags, &acks, Part::Signers), 0);
+        assert_eq!(rt;
+            in_last(scheme, &other, &tags, &acks, Part::Signers),
+            Set::EMPTY
+        );
         assert_eq!(rt;
             in_last(scheme, &entries, &tags, &forged, Part::Proof),
-            Set::only(6).bits
+            Set::only(6)
         );
         Ok(())
     }

@@ -9,6 +9,7 @@ use views::history::History;
 use wire::message::{Entry, Tagged, Tags};
 
 // Whose lone messages were counted, with their tags by board number.
+// A set beside the tags and no `Option` at each: a certificate is that set and those tags, and is written from them without a copy.
 #[derive(Clone, Copy)]
 pub struct Count {
     pub set: Set,
@@ -78,7 +79,7 @@ impl From<Kept> for Entry {
 }
 
 // Where the row stands as manager or deputy.
-#[derive(Clone, Copy, PartialEq, Eq)]
+#[derive(Clone, Copy, Debug, PartialEq, Eq)]
 pub enum Stand {
     Idle,
     Acks { change: u8 },
@@ -136,6 +137,7 @@ pub struct State {
 pub const ENOUGH: usize = 128;
 
 // What an accepted call sent: to whom, and how many of the offered bytes the message has; no boards and 0 where nothing is sent.
+// No `Option`: by the rules every accepted call answers boards and a length, and who sends to nobody has nothing to tell apart.
 #[derive(Clone, Copy)]
 pub struct Sent {
     pub to: Set,
