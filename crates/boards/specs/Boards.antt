@@ -1,6 +1,6 @@
 -- Sets of the eight boards, one byte a set: the top bit stands for board 0, the lowest for board 7.
 -- All that is said of a set is said of its members; only `member` and `only` know a bit.
-use Rattle.std.specs.Prelude.{◌≡◌, ℕ, zero, suc, ◌+◌, ◌-◌, ◌*◌, ◌/◌, ◌%◌, ◌^◌, ◌<◌, ◌≤◌, Bool, true, false, not, ◌&&◌, ◌||◌, ◌⊎◌, Some, None, Option, ◌==◌, bit_and, nat_lt}
+use Rattle.std.specs.Prelude.{◌≡◌, ℕ, zero, suc, ◌+◌, ◌-◌, ◌*◌, ◌/◌, ◌%◌, ◌^◌, ◌<◌, ◌≤◌, Bool, true, false, not, ◌&&◌, ◌||◌, ◌⊎◌, List, [], ◌∷◌, ◌++◌, cond, Some, None, Option, ◌==◌, bit_and, nat_lt}
 
 -- Board b is a member of set s when its bit is set; a board above 7 is a member of none.
 unfoldable pub member : ℕ → ℕ → Bool
@@ -63,6 +63,25 @@ Rank s b None = member s b ≡ false
 abbrev pub Holder : ℕ → ℕ → Option ℕ → Type 0
 Holder s r (Some b) = (b < 8) × (member s b ≡ true) × (place s b + 1 ≡ r)
 Holder s r None = (r ≡ 0) ⊎ (size s < r)
+
+-- The boards below n that pass a test, each once, by rising number.
+unfoldable pub passing : (ℕ → Bool) → ℕ → List ℕ
+passing P zero = []
+passing P (suc n) = passing P n ++ cond (P n) (n ∷ []) []
+
+-- The boards of a set, each once, by rising number.
+unfoldable pub boards : ℕ → List ℕ
+boards s = passing (member s) 8
+
+-- A walk over set s gives the first of its boards and leaves the others, which are those of set t; none if there is none.
+abbrev pub First : ℕ → Option ℕ → ℕ → Type 0
+First s (Some b) t = (b < 8) × (boards s ≡ b ∷ boards t)
+First s None t = (boards s ≡ []) × (boards t ≡ [])
+
+-- From the back it gives the last of them and leaves the others.
+abbrev pub Last : ℕ → Option ℕ → ℕ → Type 0
+Last s (Some b) t = (b < 8) × (boards s ≡ boards t ++ b ∷ [])
+Last s None t = (boards s ≡ []) × (boards t ≡ [])
 
 -- Sets a and b have a board in common that is not in f.
 abbrev pub Meet : ℕ → ℕ → ℕ → Type 0

@@ -1,9 +1,10 @@
-// Sets of the eight boards in one byte, the top bit for board 0: members, size, ranks by rising board number.
+// Sets of the eight boards in one byte, the top bit for board 0: members, size, ranks and walks by rising board number.
 // Every call takes any board number; one above 7 is in no set. Words of the contracts: specs/Boards.antt.
 #![tactic(auto)]
 
 ghost use Rattle.std.specs.Prelude.{◌≡◌, ◌<◌, ◌≤◌, true, Decides, ◌==◌};
-ghost use Rattle.boards.specs.Boards.{member, only, size, Within, With, Without, Minus, Rank, Holder, QuorumsMeet, OneIsCorrect};
+ghost use Rattle.std.specs.Iterator.{at_most};
+ghost use Rattle.boards.specs.Boards.{member, only, size, Within, With, Without, Minus, Rank, Holder, First, Last, QuorumsMeet, OneIsCorrect};
 
 mod bits;
 
@@ -101,6 +102,47 @@ impl Set {
         ensures { Holder self.bits rank result }
     {
         (0..8).find(|board| self.rank(*board) == Some(rank))
+    }
+
+    // The boards of the set, by rising number.
+    pub fn boards(self) -> Boards
+        ensures { result.left ≡ self }
+    {
+        Boards { left: self }
+    }
+}
+
+// A walk over the boards of a set, by rising number from the front and by falling number from the back.
+#[derive(Clone, Debug, Drop)]
+pub struct Boards {
+    left: Set,
+}
+
+impl Iterator for Boards {
+    type Item = u8;
+
+    ghost next_gives = { λ s r t. First s.left.bits r t.left.bits };
+
+    ghost remaining = { λ it. at_most (size it.left.bits) };
+
+    // The lowest board that is left, which has rank 1.
+    #[tactic(auto, using(crate::proofs::Lists::boards_none, crate::proofs::Lists::boards_first, crate::proofs::Sets::size_without_member))]
+    fn next(&mut self) -> Option<u8> {
+        let board = self.left.at(1)?;
+        self.left = self.left.without(board);
+        Some(board)
+    }
+}
+
+impl DoubleEndedIterator for Boards {
+    ghost next_back_gives = { λ s r t. Last s.left.bits r t.left.bits };
+
+    // The highest board that is left, which has the highest rank.
+    #[tactic(auto, using(crate::proofs::Lists::boards_none, crate::proofs::Lists::boards_last, crate::proofs::Sets::size_without_member))]
+    fn next_back(&mut self) -> Option<u8> {
+        let board = self.left.at(self.left.len())?;
+        self.left = self.left.without(board);
+        Some(board)
     }
 }
 
