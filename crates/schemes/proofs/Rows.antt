@@ -1,10 +1,11 @@
 -- A row more: what the register's own account of a call means for the scheme.
 -- The tag is good from now on, and nothing else changes.
-use Rattle.std.proofs.Common.{◌≡◌, ℕ, ◌<◌, true, ◌&&◌, eqb, ltb, leb, ◌⊎◌, List, length, get_or, take, sym, ◌∙◌, subst, inl, inr, ⊎_elim, arith}
+use Rattle.std.proofs.Common.{◌≡◌, ℕ, ◌<◌, true, ◌&&◌, eqb, ltb, ◌⊎◌, List, length, get_or, sym, ◌∙◌, subst, inl, inr, ⊎_elim, arith}
 use Rattle.std.proofs.lemmas.Slice.Eq.{bytes_eq-Decides}
 use Rattle.std.proofs.lemmas.Bool.{and_parts, and_from, ltb-true, lt-ltb, leb-false, eqb-true, cases_eq}
+use Rattle.bounded.specs.Held.{held}
 use Rattle.schemes.specs.Meaning.{signable, Signed}
-use Rattle.schemes.specs.Registers.{no_entry, holds, register_good, register_spent, Entered}
+use Rattle.schemes.specs.Registers.{blank_entry, holds, register_good, register_spent, Entered}
 use Rattle.schemes.specs.declared.register.Entry.{Entry}
 use Rattle.schemes.proofs.Refusals.{unrefused}
 
@@ -13,7 +14,7 @@ pub record Parts (rows : List Entry) (used b : ℕ) (w : List ℕ) (t : ℕ) : T
   pub can : signable b w ≡ true
   pub below : t < used
   pub within : t < length rows
-  pub held : holds (get_or rows t no_entry) b w ≡ true
+  pub held : holds (get_or rows t blank_entry) b w ≡ true
 
 pub apart : (rows : List Entry) (used b : ℕ) (w : List ℕ) (t : ℕ) → register_good rows used b w t ≡ true → Parts rows used b w t
 apart rows used b w t h =
@@ -31,8 +32,8 @@ pub one_holding : (e : Entry) (b c : ℕ) (v w : List ℕ) → holds e b v ≡ t
 one_holding e b c v w h k =
     let p = and_parts (eqb e.board b) _ h in
     let q = and_parts (eqb e.board c) _ k in
-    let vs = (bytes_eq-Decides (take e.size e.words) v).0 (and_parts (leb e.size 64) _ p.1).1 in
-    let ws = (bytes_eq-Decides (take e.size e.words) w).0 (and_parts (leb e.size 64) _ q.1).1 in
+    let vs = (bytes_eq-Decides (held e.words) v).0 p.1 in
+    let ws = (bytes_eq-Decides (held e.words) w).0 q.1 in
     (sym (eqb-true _ _ q.0) ∙ eqb-true _ _ p.0, sym ws ∙ vs)
 
 module _ {rows rows2 : List Entry} {used used2 board tag : ℕ} {words : List ℕ} (h : Entered rows used board words tag rows2 used2) where
@@ -49,7 +50,7 @@ module _ {rows rows2 : List Entry} {used used2 board tag : ℕ} {words : List �
       let count = h.counted in
       let Goal : Type 0 = (register_good rows used b w t ≡ true) ⊎ ((b ≡ board) × (w ≡ words) × (t ≡ tag)) in
       let here : t ≡ used → Goal = λ e.
-      let both = one_holding (get_or rows2 used no_entry) board b words w h.held (subst (λ (k : ℕ). holds (get_or rows2 k no_entry) b w ≡ true) e p.held) in
+      let both = one_holding (get_or rows2 used blank_entry) board b words w h.held (subst (λ (k : ℕ). holds (get_or rows2 k blank_entry) b w ≡ true) e p.held) in
       inr (both.0, both.1, e ∙ sym h.lowest) in
       let there : (t ≡ used → ⊥) → Goal = λ ne.
       inl (together rows used b w t (record {
@@ -72,7 +73,7 @@ module _ {rows rows2 : List Entry} {used used2 board tag : ℕ} {words : List �
           can = can;
           below = omega (arith, count, lowest);
           within = omega (arith, room, many, lowest);
-          held = subst (λ (k : ℕ). holds (get_or rows2 k no_entry) board words ≡ true) (sym lowest) h.held;
+          held = subst (λ (k : ℕ). holds (get_or rows2 k blank_entry) board words ≡ true) (sym lowest) h.held;
         });
         kept = λ b w t g.
             let p = apart rows used b w t g in

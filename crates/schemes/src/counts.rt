@@ -6,7 +6,7 @@ ghost use Rattle.schemes.specs.Counts.{good_count};
 use super::Scheme;
 
 // A tag, and the board whose it is said to be.
-#[derive(Clone, Copy)]
+#[derive(Clone, Copy, Debug)]
 pub struct Tagged {
     pub board: u8,
     pub tag: u64,

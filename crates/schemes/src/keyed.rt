@@ -8,15 +8,18 @@ ghost use Rattle.schemes.specs.Bounds.{keyed_bounded};
 use super::{Scheme, SignRefusal, admit, is_signable};
 use siphash::siphash;
 
-// A key for each board, lent by the caller.
+// A key for each board.
+pub type Keys = [[u8; 16]; 8];
+
+// The keys, lent by the caller.
 #[derive(Drop)]
 pub struct Keyed<'a> {
-    keys: &'a [[u8; 16]; 8],
+    keys: &'a Keys,
 }
 
 impl<'a> Keyed<'a> {
     // The scheme of these keys, one for each board.
-    pub fn new(keys: &'a [[u8; 16]; 8]) -> Keyed<'a>
+    pub fn new(keys: &'a Keys) -> Keyed<'a>
         ensures { result.keys.now ≡ keys.now }
     {
         Keyed { keys }

@@ -11,7 +11,8 @@ pub mod laws;
 pub mod register;
 
 // Why a scheme does not sign.
-#[derive(Clone, Copy, PartialEq, Eq)]
+// The numbers are those of crate `codes`, said here again: codes carry the faults of messages, and a scheme knows of no message.
+#[derive(Clone, Copy, Debug, PartialEq, Eq)]
 pub enum SignRefusal {
     Board = 1,
     Long = 4,
@@ -28,6 +29,7 @@ impl From<SignRefusal> for u8 {
 }
 
 // A scheme is what its `good` and `spent` say; whoever uses one rests on this contract alone.
+// Board and words are two parameters, not one struct: goodness is a relation over them, and each clause and law speaks of each by itself.
 pub trait Scheme {
     ghost good: { Self → ℕ → List ℕ → ℕ → Bool };
 
@@ -53,7 +55,7 @@ pub trait Scheme {
 fn is_signable(board: u8, words: &[u8]) -> bool
     ensures { result ≡ signable board words.now }
 {
-    board < 8 && (1..=64).contains(&words.len())
+    admit(board, words, false).is_ok()
 }
 
 // Refuses for the first reason that holds.

@@ -3,17 +3,16 @@
 ghost use Rattle.std.specs.Prelude.{◌≡◌, ℕ, ◌<◌, ◌≤◌, true, false, List, length, ◌==◌};
 ghost use Rattle.schemes.specs.Bounds.{register_bounded};
 ghost use Rattle.schemes.specs.Meaning.{Signing};
-ghost use Rattle.schemes.specs.Registers.{blank_entry, has_words, holds, good_in, spent_in, Entering};
+ghost use Rattle.schemes.specs.Registers.{blank_entry, holds, good_in, spent_in, Entering};
 
 use super::{Scheme, SignRefusal, admit, is_signable};
+use bounded::Bytes;
 
-// What a row holds: a board, and the first bytes of `words`, as many as `size` says.
-// Nothing is allocated, so the words lie in an array with their number beside.
-#[derive(Clone, Copy)]
+// What a row holds: a board and the words signed for it.
+#[derive(Clone, Copy, Debug)]
 pub struct Entry {
     board: u8,
-    size: u8,
-    words: [u8; 64],
+    words: Bytes<64>,
 }
 
 impl Entry {
@@ -23,8 +22,7 @@ impl Entry {
     {
         Entry {
             board: 0,
-            size: 0,
-            words: [0; 64],
+            words: Bytes::empty(),
         }
     }
 
@@ -33,29 +31,17 @@ impl Entry {
         requires { length words.now ≤ 64 }
         ensures { holds result board words.now ≡ true }
     {
-        let mut held = [0; 64];
-        held[..words.len()].copy_from_slice(words);
         Entry {
             board,
-            size: words.len() as u8,
-            words: held,
+            words: Bytes::of(words).unwrap(),
         }
     }
 
-    // Whether the entry's words are these.
-    fn has(&self, words: &[u8]) -> bool
-        ensures { result ≡ has_words self.now words.now }
-    {
-        self.words
-            .get(..usize::from(self.size))
-            .is_some_and(|held| held == words)
-    }
-
-    // Whether the entry is that of the board and the words.
+    // Whether the entry is that of the board and the words, which are compared as they are lent: an entry made to be compared would copy them.
     fn is_of(&self, board: u8, words: &[u8]) -> bool
         ensures { result ≡ holds self.now board words.now }
     {
-        self.board == board && self.has(words)
+        self.board == board && self.words.as_slice() == words
     }
 }
 
