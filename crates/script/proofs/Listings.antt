@@ -1,6 +1,7 @@
 -- Lists in the making: the items that an iterator has left, and the text so far.
 -- What comes of a list once all are written.
 use Rattle.std.proofs.Common.{◌≡◌, ℕ, List, [], ◌∷◌, ◌++◌, length, Some, None, Ok, Err, Option, Result, IsErr, sym, refl, ap, ◌∙◌, subst, append_assoc, append-nil, arith, length-append}
+use Rattle.std.proofs.lemmas.Iterator.{YieldsList}
 use Rattle.std.specs.Iterator.{AlwaysYields}
 use Rattle.std.specs.declared.alloc.AllocError.{AllocError}
 use Rattle.script.specs.Lines.{Line, Wrote}
@@ -83,3 +84,7 @@ module _ {S A : Type 0} (steps : S → Option A → S → Type 0) (v : A → Lis
   pub dash : {s t : S} (ys : List (List ℕ)) → AlwaysYields steps v s ys → steps s None t → 45 ∷ [] ≡ commas ys
   unfolding commas
   dash ys h step = sym (ap commas (end ys h step))
+
+-- what is written of items that an iterator gives
+pub written : {S A : Type 0} {steps : S → Option A → S → Type 0} {v : A → List ℕ} {s : S} {a b : Line} {r : Result (Unit {0}) AllocError} {ys zs : List (List ℕ)} → ((ts : List (List ℕ)) → AlwaysYields steps v s ts → Wrote a (commas ts) r b) → YieldsList steps v s ys → ys ≡ zs → Wrote a (commas zs) r b
+written {a = a} {b} {r} h road e = subst (λ ts. Wrote a (commas ts) r b) e (h _ road.runs)

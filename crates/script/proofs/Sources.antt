@@ -1,24 +1,23 @@
 -- Where the items of lists come from: the boards of a set, and pieces of bytes.
 -- Which items they give, and that these are the ones a message means.
-use Rattle.std.proofs.Common.{◌≡◌, ℕ, zero, suc, ◌+◌, ◌-◌, ◌*◌, ◌/◌, ◌<◌, min, Bool, true, false, cond, List, [], ◌∷◌, ◌++◌, map, filter, length, take, drop, Some, None, Option, sym, refl, ap, ◌∙◌, subst, ⊎_elim, append-nil, add-one, arith, length-append, length-drop}
+use Rattle.std.proofs.Common.{◌≡◌, ℕ, zero, suc, ◌+◌, ◌-◌, ◌*◌, ◌/◌, ◌<◌, min, Bool, true, false, cond, List, [], ◌∷◌, ◌++◌, map, filter, length, take, drop, Some, None, Option, sym, refl, ap, ◌∙◌, subst, ⊎_elim, append-nil, add-one, arith, length-append, length-drop, get_or, add-zero}
 use Rattle.std.proofs.lemmas.Bool.{cases_lt}
-use Rattle.std.proofs.lemmas.List.{map-append, take_all, drop_all, drop_at, drop-drop, take-append-le}
+use Rattle.std.proofs.lemmas.List.{get_or-take, get_or-drop, drop-take, map-append, take_all, drop_all, drop_at, drop-drop, take-append-le}
 use Rattle.std.proofs.lemmas.Iterator.{YieldsList}
 use Rattle.std.proofs.lemmas.Iterator.Splits.{YieldsList-from_shown_while}
-use Rattle.std.specs.Iterator.{AlwaysYields, YieldsThen}
 use Rattle.std.specs.Slice.Iter.{chunks_rest, chunks_size, chunks_steps}
 use Rattle.std.specs.declared.slice.Chunks.{Chunks}
 use Rattle.std.specs.List.{FoldsTo, range_with_len}
 use Rattle.std.specs.declared.ops.Range.{Range}
 use Rattle.std.specs.declared.iter.Filter.{Filter}
 use Rattle.std.specs.Iterator.Adapters.{filter_source, filter_callee, filter_steps}
-use Rattle.std.proofs.lemmas.List.Elements.{filter-append}
-use Rattle.std.proofs.lemmas.List.FromFn.{map-range_with_len_more}
+use Rattle.std.proofs.lemmas.List.Elements.{filter-append, All-filter}
+use Rattle.std.proofs.lemmas.List.FromFn.{map-range_with_len_more, get_or-range_with_len}
 use Rattle.std.specs.Fn.{CalledAt}
 use Rattle.std.proofs.iter.Yields.{nat_range_steps}
 use denote.Param.Members.{Mut}
 use denote.Ref.{Bor}
-use Rattle.wire.specs.Messages.{Reply, listed, replies_in, reply_at, heard_replies}
+use Rattle.wire.specs.Messages.{Reply, entry_in, listed, replies_in, reply_at, heard_replies}
 use Rattle.wire.specs.Acts.{tag_at}
 use Rattle.script.specs.Texts.{hex, tags_in}
 
@@ -81,57 +80,16 @@ module _ (size : ℕ) (count : ℕ → ℕ) (none : count 0 ≡ 0) (more : (n : 
       ∙ each_front (λ y. y) size (count (length xs - size)) xs
       ∙ (λ i. (ap (take size) e ∙ sym f.0) i ∷ each (λ y. y) size (count (left i)) (rest i))
 
-  pub pieces_run : (s : Chunks ℕ) → chunks_size s ≡ size → YieldsList chunks_steps (λ x. x.now) s (all (chunks_rest s))
-  pieces_run = YieldsList-from_shown_while chunks_steps (λ x. x.now) (λ s. all (chunks_rest s)) (λ s. chunks_size s ≡ size)
+  pub pieces_run : {s : Chunks ℕ} (xs : List ℕ) → chunks_rest s ≡ xs → chunks_size s ≡ size → YieldsList chunks_steps (λ x. x.now) s (all xs)
+  pieces_run {s} xs is e = subst (λ ys. YieldsList chunks_steps (λ x. x.now) s (all ys)) is
+      (YieldsList-from_shown_while chunks_steps (λ x. x.now) (λ s. all (chunks_rest s)) (λ s. chunks_size s ≡ size)
       (λ s t h step. all_none (chunks_rest s) step.1.0)
       (λ s x t h step. (step.0 ∙ h, all_more (chunks_rest s) x.now (chunks_rest t) step.1.0 (step.1.1 ∙ ap (λ k. min k (length (chunks_rest s))) h) step.1.2))
+      s e)
 
--- the numbers that a range has left
-abbrev pub numbers : Range ℕ → List ℕ
-numbers s = range_with_len s.start (s.end - s.start)
-
-range_more : (s u : Range ℕ) (x : ℕ) → nat_range_steps s (Some x) u → numbers s ≡ x ∷ numbers u
-range_more s u x h =
-    let n : s.end - s.start ≡ suc (u.end - u.start) = omega (arith, h) in
-    (λ i. range_with_len s.start (n i)) ∙ (λ i. sym h.1.1 i ∷ range_with_len (sym h.1.2 i) (u.end - u.start))
-
-range_none : (s u : Range ℕ) → nat_range_steps s None u → numbers s ≡ []
-range_none s u h = (λ i. range_with_len s.start (h.1.0 i))
-
--- the numbers that pass a closure's test
-module _ {F : Type 0} (g : Mut F (Bor ℕ × Unit {0}) Bool) (f : F) (p : ℕ → Bool) (k : (x : ℕ) (b : Bool) (q : F) → CalledAt g f x b q → (q ≡ f) × (b ≡ p x)) where
-  skip : (y : ℕ) (zs : List ℕ) → p y ≡ false → filter p (y ∷ zs) ≡ filter p zs
-  skip y zs e = ap (λ b. cond b (y ∷ filter p zs) (filter p zs)) e
-
-  keep : (y : ℕ) (zs : List ℕ) → p y ≡ true → filter p (y ∷ zs) ≡ y ∷ filter p zs
-  keep y zs e = ap (λ b. cond b (y ∷ filter p zs) (filter p zs)) e
-
-  fails : (x : ℕ) (h q : F) → h ≡ f → CalledAt g h x false q → (q ≡ f) × (p x ≡ false)
-  fails x h q e c =
-      let r = k x false q (subst (λ a. CalledAt g a x false q) e c) in
-      (r.0, sym r.1)
-
-  found : (xs : List ℕ) (s u : Range ℕ) (x : ℕ) (a h q : F) → a ≡ f → YieldsThen nat_range_steps s xs (Some x) u → FoldsTo (λ b z c. CalledAt g b z false c) a xs h → CalledAt g h x true q → (q ≡ f) × (filter p (numbers s) ≡ x ∷ filter p (numbers u))
-  found [] s u x a h q e w folds c =
-      let r = k x true q (subst (λ b. CalledAt g b x true q) (sym folds ∙ e) c) in
-      (r.0, ap (λ t. filter p (numbers t)) w.1 ∙ ap (filter p) (range_more w.0 u x w.2) ∙ keep x (numbers u) (sym r.1))
-  found (z ∷ xs) s u x a h q e w folds c =
-      let j = w.1.0 in
-      let r = fails z a folds.0 e folds.1 in
-      let rest = found xs j u x folds.0 h q r.0 (w.0, w.1.2, w.2) folds.2 c in
-      (rest.0, ap (filter p) (range_more s j z w.1.1) ∙ skip z (numbers j) r.1 ∙ rest.1)
-
-  ended : (xs : List ℕ) (s u : Range ℕ) (a h : F) → a ≡ f → YieldsThen nat_range_steps s xs None u → FoldsTo (λ b z c. CalledAt g b z false c) a xs h → filter p (numbers s) ≡ []
-  ended [] s u a h e w folds = ap (λ t. filter p (numbers t)) w.1 ∙ ap (filter p) (range_none w.0 u w.2)
-  ended (z ∷ xs) s u a h e w folds =
-      let j = w.1.0 in
-      let r = fails z a folds.0 e folds.1 in
-      ap (filter p) (range_more s j z w.1.1) ∙ skip z (numbers j) r.1 ∙ ended xs j u folds.0 h r.0 (w.0, w.1.2, w.2) folds.2
-
-  pub passing_run : (s : Filter (Range ℕ) F) → filter_callee s ≡ f → YieldsList (filter_steps nat_range_steps g) (λ b. b) s (filter p (numbers (filter_source s)))
-  passing_run = YieldsList-from_shown_while (filter_steps nat_range_steps g) (λ b. b) (λ s. filter p (numbers (filter_source s))) (λ s. filter_callee s ≡ f)
-      (λ s t h step. ap length (ended step.0 (filter_source s) (filter_source t) (filter_callee s) step.1 h step.2 step.3))
-      (λ s x t h step. found step.0 (filter_source s) (filter_source t) x (filter_callee s) step.1 (filter_callee t) h step.2 step.3 step.4)
+-- a board that is listed is one of eight
+pub below : (p : ℕ → Bool) (x k : ℕ) → k < length (filter p (range_with_len 0 8)) → x ≡ get_or (filter p (range_with_len 0 8)) k x → x < 8
+below p x k h e = subst (λ y. y < 8) (sym e) (All-filter p (λ y. y < 8) (range_with_len 0 8) (λ j d l. rw get_or-range_with_len (omega arith)) k x h)
 
 map_same : (xs : List ℕ) → map (λ x. x) xs ≡ xs
 map_same [] = refl
@@ -157,11 +115,12 @@ eights n = (n + 7) / 8
 abbrev pub nines : ℕ → ℕ
 nines n = (n + 8) / 9
 
-pub eights_more : (n : ℕ) → 0 < n → eights n ≡ suc (eights (n - 8))
-eights_more n h = omega arith
+-- bytes cut into tags, and into replies
+pub tags_run : {s : Chunks ℕ} (xs : List ℕ) → chunks_rest s ≡ xs → chunks_size s ≡ 8 → YieldsList chunks_steps (λ x. x.now) s (each (λ x. x) 8 (eights (length xs)) xs)
+tags_run = pieces_run 8 eights refl (λ n h. omega arith)
 
-pub nines_more : (n : ℕ) → 0 < n → nines n ≡ suc (nines (n - 9))
-nines_more n h = omega arith
+pub replies_run : {s : Chunks ℕ} (xs : List ℕ) → chunks_rest s ≡ xs → chunks_size s ≡ 9 → YieldsList chunks_steps (λ x. x.now) s (each (λ x. x) 9 (nines (length xs)) xs)
+replies_run = pieces_run 9 nines refl (λ n h. omega arith)
 
 each_tag : (n : ℕ) (t : List ℕ) → each hex 8 n t ≡ tags_in n t
 unfolding each tags_in
@@ -172,30 +131,23 @@ each_tag (suc n) t = ap (λ xs. xs ++ hex (tag_at n t) ∷ []) (each_tag n t)
 pub tags_are : (t : List ℕ) → map hex (each (λ x. x) 8 (eights (length t)) t) ≡ tags_in (eights (length t)) t
 tags_are t = each_map hex (λ x. x) 8 (eights (length t)) t ∙ each_tag (eights (length t)) t
 
+-- the reply in nine bytes
+abbrev pub reply_in : List ℕ → Reply
+reply_in p = record { entry = entry_in (get_or p 0 0); tag = drop 1 p }
+
+same_reply : (xs : List ℕ) (k : ℕ) → reply_in (take 9 (drop k xs)) ≡ reply_at xs k
+same_reply xs k =
+    let byte = get_or-take 9 (drop k xs) 0 0 (omega arith) ∙ get_or-drop k xs 0 0 ∙ ap (λ j. get_or xs j 0) (add-zero k) in
+    let tag = drop-take 1 8 (drop k xs) ∙ ap (take 8) (drop-drop 1 k xs) in
+    (λ i. record { entry = entry_in (byte i); tag = tag i })
+
 -- the replies in bytes
-module _ {X : Type 0} (h : List ℕ → X) (g : Reply → X) (same : (xs : List ℕ) (k : ℕ) → h (take 9 (drop k xs)) ≡ g (reply_at xs k)) where
-  each_reply : (n : ℕ) (xs : List ℕ) → each h 9 n xs ≡ map g (replies_in n xs)
+module _ {X : Type 0} (g : Reply → X) where
+  each_reply : (n : ℕ) (xs : List ℕ) → each (λ p. g (reply_in p)) 9 n xs ≡ map g (replies_in n xs)
   unfolding each replies_in
   each_reply zero xs = refl
   each_reply (suc n) xs =
-      (λ i. each_reply n xs i ++ same xs (9 * n) i ∷ []) ∙ sym (map-append g (replies_in n xs) (reply_at xs (9 * n) ∷ []))
+      (λ i. each_reply n xs i ++ g (same_reply xs (9 * n) i) ∷ []) ∙ sym (map-append g (replies_in n xs) (reply_at xs (9 * n) ∷ []))
 
-  pub replies_are : (xs : List ℕ) → map h (each (λ x. x) 9 (nines (length xs)) xs) ≡ map g (heard_replies xs)
-  replies_are xs = each_map h (λ x. x) 9 (nines (length xs)) xs ∙ each_reply (nines (length xs)) xs
-
--- the same items, read by one more function
-read_on : {S A B C : Type 0} (steps : S → Option A → S → Type 0) (v : A → B) (h : B → C) (ys : List B) (s : S) → AlwaysYields steps v s ys → AlwaysYields steps (λ x. h (v x)) s (map h ys)
-read_on steps v h [] s r = r
-read_on steps v h (y ∷ ys) s r = (
-  r.0,
-  λ x j step.
-      let k = r.1 x j step in
-      (ap h k.0, read_on steps v h ys j k.1),
-)
-
-pub viewed : {S A B C : Type 0} {steps : S → Option A → S → Type 0} {v : A → B} {s : S} {ys : List B} (h : B → C) → YieldsList steps v s ys → YieldsList steps (λ x. h (v x)) s (map h ys)
-viewed {steps = steps} {v} {s} {ys} h r = record { runs = read_on steps v h ys s r.runs }
-
--- the boards of a set among eight
-pub boards_are : {X : Type 0} (h : ℕ → X) (p : ℕ → Bool) (r : Range ℕ) → r ≡ record { start = 0; end = 8 } → map h (filter p (numbers r)) ≡ listed p h 8
-boards_are h p r e = ap (λ t. map h (filter p (numbers t))) e ∙ listed_is h p 8
+  pub replies_are : (xs : List ℕ) → map (λ p. g (reply_in p)) (each (λ x. x) 9 (nines (length xs)) xs) ≡ map g (heard_replies xs)
+  replies_are xs = each_map (λ p. g (reply_in p)) (λ x. x) 9 (nines (length xs)) xs ∙ each_reply (nines (length xs)) xs

@@ -13,7 +13,7 @@ use std::alloc::AllocError;
 use wire::message::Message;
 
 // What is wrong with a line of the script.
-#[derive(Clone, Copy, PartialEq, Eq)]
+#[derive(Clone, Copy, Debug, PartialEq, Eq)]
 pub enum Reason {
     NotText,
     UnknownCall,

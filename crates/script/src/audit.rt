@@ -8,14 +8,14 @@ use boards::Set;
 use std::alloc::AllocError;
 
 // Boards by whether their tags are good.
-#[derive(Clone, Copy, PartialEq, Eq)]
+#[derive(Clone, Copy, Debug, PartialEq, Eq)]
 pub struct Verdict {
     pub good: Set,
     pub bad: Set,
 }
 
 // The boards that signed a message, and those of its proof where its kind has one.
-#[derive(Clone, Copy, PartialEq, Eq)]
+#[derive(Clone, Copy, Debug, PartialEq, Eq)]
 pub struct Audit {
     pub signers: Verdict,
     pub proof: Option<Verdict>,

@@ -7,14 +7,14 @@ use crate::answer::Reason;
 use crate::words::{body, is_text, next_word};
 
 // A call: `read` has the hexadecimal digits of the bytes to read, `keys` those of the eight boards' keys.
-#[derive(Clone, Copy, PartialEq, Eq)]
+#[derive(Clone, Copy, Debug, PartialEq, Eq)]
 pub enum Call<'a> {
     Read(&'a [u8]),
     Keys(&'a [u8]),
 }
 
 // The names of calls. Apart from `Call`: the one word after a name is asked for before it is read, in the same way for each name.
-#[derive(Clone, Copy, PartialEq, Eq)]
+#[derive(Clone, Copy, Debug, PartialEq, Eq)]
 pub(crate) enum Verb {
     Read,
     Keys,

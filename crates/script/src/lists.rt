@@ -1,9 +1,9 @@
 // Lists as text, with commas between the items and a dash for none: the boards of a set, tags, entries.
 // What stands in each list: specs/Texts.antt; tags and entries as a message means them, heard, stored or fresh.
-ghost use Rattle.std.specs.Prelude.{ℕ, List, slice_index, slice_index_or};
+ghost use Rattle.std.specs.Prelude.{◌≡◌, ◌<◌, ℕ, List};
 ghost use Rattle.std.specs.Iterator.{AlwaysYields, IsFinite};
 ghost use Rattle.boards.specs.Boards.{member};
-ghost use Rattle.wire.specs.Messages.{listed, heard_replies, none, replies_by, tag_bytes, tags_by};
+ghost use Rattle.wire.specs.Messages.{listed, replies_by, tag_bytes, tags_by};
 ghost use Rattle.script.specs.Lines.{Wrote};
 ghost use Rattle.script.specs.Texts.{boards_text, commas, entries_text, entry_text, hex, replied_text, tags_text};
 
@@ -31,7 +31,20 @@ where
     Ok(())
 }
 
-// The boards of a set, by rising number.
+// What stands at each board of a set, by rising number.
+fn at_boards<T: Text + Drop, F: Fn(u8) -> T>(
+    line: &mut Vec<u8>,
+    set: Set,
+    at: F,
+) -> Result<(), AllocError>
+    requires { (b : ℕ) → b < 8 → F.pre at b }
+    ensures { (text : ℕ → List ℕ) → ((b : ℕ) (item : T) → F.post at b item → T.text item ≡ text b)
+        → Wrote line.old (commas (listed (member set.bits) text 8)) result line.new }
+{
+    commas(line, (0..8u8).filter(|board| set.has(*board)).map(at))
+}
+
+// The boards of a set.
 #[derive(Clone, Copy)]
 pub(crate) struct Boards(pub(crate) Set);
 
@@ -39,8 +52,7 @@ impl Text for Boards {
     ghost text = { λ s. boards_text s.0.bits };
 
     fn write(&self, line: &mut Vec<u8>) -> Result<(), AllocError> {
-        let set = self.0;
-        commas(line, (0..8u8).filter(|board| set.has(*board)))
+        at_boards(line, self.0, |board| board)
     }
 }
 
@@ -75,18 +87,6 @@ fn heard_tags(line: &mut Vec<u8>, bytes: &[u8]) -> Result<(), AllocError>
     commas(line, bytes.chunks(8).map(|tag| Hex(tag)))
 }
 
-// The tags of a set's boards, stored by board number.
-fn stored_tags(line: &mut Vec<u8>, set: Set, tags: &[u64; 8]) -> Result<(), AllocError>
-    ensures { Wrote line.old (commas (listed (member set.bits) (λ b. hex (tag_bytes (slice_index tags.now b))) 8)) result line.new }
-{
-    commas(
-        line,
-        (0..8u8)
-            .filter(|board| set.has(*board))
-            .map(|board| Tag(tags[board as usize])),
-    )
-}
-
 // The tags of a set's boards.
 impl Text for Tagged<'_> {
     ghost text = { λ by. tags_text (tags_by by) };
@@ -94,39 +94,15 @@ impl Text for Tagged<'_> {
     fn write(&self, line: &mut Vec<u8>) -> Result<(), AllocError> {
         match self.tags {
             Tags::Heard(bytes) => heard_tags(line, bytes),
-            Tags::Stored(tags) => stored_tags(line, self.set, tags),
+            Tags::Stored(tags) => {
+                at_boards(line, self.set, |board| Tag(tags[usize::from(board)]))
+            }
             Tags::Fresh(tag) => heard_tags(line, &tag.to_be_bytes()),
         }
     }
 }
 
-// Entries that were heard, each in the first of nine bytes.
-fn heard_entries(line: &mut Vec<u8>, bytes: &[u8]) -> Result<(), AllocError>
-    ensures { Wrote line.old (entries_text (heard_replies bytes.now)) result line.new }
-{
-    commas(line, bytes.chunks(9).map(|reply| Entry::from(reply[0])))
-}
-
-// Their tags, each in the eight bytes after it.
-fn heard_entry_tags(line: &mut Vec<u8>, bytes: &[u8]) -> Result<(), AllocError>
-    ensures { Wrote line.old (replied_text (heard_replies bytes.now)) result line.new }
-{
-    commas(line, bytes.chunks(9).map(|reply| Hex(&reply[1..])))
-}
-
-// The entries of a set's boards, stored by board number.
-fn stored_entries(line: &mut Vec<u8>, set: Set, entries: &[Entry; 8]) -> Result<(), AllocError>
-    ensures { Wrote line.old (commas (listed (member set.bits) (λ b. entry_text (slice_index_or entries.now b none)) 8)) result line.new }
-{
-    commas(
-        line,
-        (0..8u8)
-            .filter(|board| set.has(*board))
-            .map(|board| entries[board as usize]),
-    )
-}
-
-// The entries of a set's boards.
+// The entries of a set's boards: heard, each in the first of nine bytes, or stored by board number.
 #[derive(Clone, Copy)]
 pub(crate) struct EntriesOf<'a>(pub(crate) Replies<'a>);
 
@@ -135,13 +111,17 @@ impl Text for EntriesOf<'_> {
 
     fn write(&self, line: &mut Vec<u8>) -> Result<(), AllocError> {
         match self.0.entries {
-            Entries::Heard(bytes) => heard_entries(line, bytes),
-            Entries::Stored { entries, tags: _ } => stored_entries(line, self.0.set, entries),
+            Entries::Heard(bytes) => {
+                commas(line, bytes.chunks(9).map(|reply| Entry::from(reply[0])))
+            }
+            Entries::Stored { entries, .. } => {
+                at_boards(line, self.0.set, |board| entries[usize::from(board)])
+            }
         }
     }
 }
 
-// The tags beside them.
+// The tags beside them: heard, each in the eight bytes after its entry.
 #[derive(Clone, Copy)]
 pub(crate) struct TagsOf<'a>(pub(crate) Replies<'a>);
 
@@ -150,8 +130,14 @@ impl Text for TagsOf<'_> {
 
     fn write(&self, line: &mut Vec<u8>) -> Result<(), AllocError> {
         match self.0.entries {
-            Entries::Heard(bytes) => heard_entry_tags(line, bytes),
-            Entries::Stored { entries: _, tags } => stored_tags(line, self.0.set, tags),
+            Entries::Heard(bytes) => commas(line, bytes.chunks(9).map(|reply| Hex(&reply[1..]))),
+            Entries::Stored { tags, .. } => {
+                let tagged = Tagged {
+                    set: self.0.set,
+                    tags: Tags::Stored(tags),
+                };
+                tagged.write(line)
+            }
         }
     }
 }

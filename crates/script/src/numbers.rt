@@ -31,7 +31,7 @@ impl Text for u8 {
     ghost text = { decimal };
 
     fn write(&self, line: &mut Vec<u8>) -> Result<(), AllocError> {
-        digits(line, *self as u64)
+        digits(line, u64::from(*self))
     }
 }
 

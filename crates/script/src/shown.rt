@@ -1,92 +1,83 @@
 // A message as the rest of an answer line: its kind's name, then its fields in the order of the kind.
 // The texts: specs/Shown.antt, of what the message means; where its bytes lie makes no difference.
-ghost use Rattle.boards.specs.Boards.{only};
-ghost use Rattle.wire.specs.Messages.{meaning, replies_by, tags_by, tags_of};
-ghost use Rattle.script.specs.Shown.{opening, ranked, graded, own_tag, spoken, reply_text, reply_of, gathered, proof_text, replies_text, content_text, shown};
+ghost use Rattle.wire.specs.Messages.{meaning, replies_by, tag_by, tags_by};
+ghost use Rattle.script.specs.Shown.{opening, ranked, graded, spoken, reply_text, reply_of, gathered, proof_text, replies_text, content_text, shown};
 
 use crate::line::{Field, Text};
 use crate::lists::{Boards, EntriesOf, TagsOf};
 use crate::numbers::Payload;
-use boards::Set;
 use std::alloc::AllocError;
 use wire::kind::Kind;
-use wire::message::{Content, Entry, Message, Replies, Tagged, Tags};
+use wire::message::{Body, Content, Entry, Message, Replies, Spoken, Tagged};
 
 // The kind's name and the view.
 #[derive(Clone, Copy)]
-struct Opening(Kind, u8);
+struct Opening {
+    kind: Kind,
+    view: u8,
+}
 
 impl Text for Opening {
-    ghost text = { λ o. opening o.0 o.1 };
+    ghost text = { λ o. opening o.kind o.view };
 
     fn write(&self, line: &mut Vec<u8>) -> Result<(), AllocError> {
-        (self.0.name(), Field("view", self.1)).write(line)
+        (self.kind.name(), Field("view", self.view)).write(line)
     }
 }
 
-// The kind's name, view and rank.
+// An opening and the rank.
 #[derive(Clone, Copy)]
-struct Ranked(Kind, u8, u8);
+struct Ranked {
+    opening: Opening,
+    rank: u8,
+}
 
 impl Text for Ranked {
-    ghost text = { λ r. ranked r.0 r.1 r.2 };
+    ghost text = { λ r. ranked r.opening.kind r.opening.view r.rank };
 
     fn write(&self, line: &mut Vec<u8>) -> Result<(), AllocError> {
-        (Opening(self.0, self.1), Field("rank", self.2)).write(line)
+        (self.opening, Field("rank", self.rank)).write(line)
     }
 }
 
-// The kind's name, view, rank and change.
+// The same with the change.
 #[derive(Clone, Copy)]
-struct Graded(Kind, u8, u8, u8);
+struct Graded {
+    ranked: Ranked,
+    change: u8,
+}
 
 impl Text for Graded {
-    ghost text = { λ g. graded g.0 g.1 g.2 g.3 };
+    ghost text = { λ g. graded g.ranked.opening.kind g.ranked.opening.view g.ranked.rank g.change };
 
     fn write(&self, line: &mut Vec<u8>) -> Result<(), AllocError> {
-        (Ranked(self.0, self.1, self.2), Field("change", self.3)).write(line)
+        (self.ranked, Field("change", self.change)).write(line)
     }
 }
 
-// A board's own tag.
-#[derive(Clone, Copy)]
-struct OwnTag<'a>(u8, Tags<'a>);
-
-impl Text for OwnTag<'_> {
-    ghost text = { λ t. own_tag (tags_of (only t.0) t.1) };
-
-    fn write(&self, line: &mut Vec<u8>) -> Result<(), AllocError> {
-        let tagged = Tagged {
-            set: Set::only(self.0),
-            tags: self.1,
-        };
-        Field("tag", tagged).write(line)
-    }
-}
-
-// The speaker and its tag.
-#[derive(Clone, Copy)]
-struct Spoken<'a>(u8, Tags<'a>);
-
+// A lone board with its tag.
 impl Text for Spoken<'_> {
-    ghost text = { λ s. spoken s.0 (tags_of (only s.0) s.1) };
+    ghost text = { λ s. spoken s.speaker (tag_by s) };
 
     fn write(&self, line: &mut Vec<u8>) -> Result<(), AllocError> {
-        (Field("from", self.0), OwnTag(self.0, self.1)).write(line)
+        (Field("from", self.speaker), Field("tag", self.tagged())).write(line)
     }
 }
 
-// The speaker with its entry and its tag.
+// A lone board with its entry and its tag.
 #[derive(Clone, Copy)]
-struct Reply<'a>(u8, Entry, Tags<'a>);
+struct Reply<'a> {
+    entry: Entry,
+    own: Spoken<'a>,
+}
 
 impl Text for Reply<'_> {
-    ghost text = { λ r. reply_text r.0 (reply_of r.1 (tags_of (only r.0) r.2)) };
+    ghost text = { λ r. reply_text r.own.speaker (reply_of r.entry (tag_by r.own)) };
 
     fn write(&self, line: &mut Vec<u8>) -> Result<(), AllocError> {
         (
-            Field("from", self.0),
-            (Field("entry", self.1), OwnTag(self.0, self.2)),
+            Field("from", self.own.speaker),
+            (Field("entry", self.entry), Field("tag", self.own.tagged())),
         )
             .write(line)
     }
@@ -156,109 +147,48 @@ impl Text for Message<'_> {
     ghost text = { λ m. shown (meaning m) };
 
     fn write(&self, line: &mut Vec<u8>) -> Result<(), AllocError> {
-        match *self {
-            Message::Notify {
-                view,
-                change,
-                speaker,
-                tag,
-            } => {
-                (
-                    Opening(Kind::Notify, view),
-                    (Field("change", change), Spoken(speaker, tag)),
-                )
-                    .write(line)
+        let opening = Opening {
+            kind: self.kind(),
+            view: self.view,
+        };
+        match self.body {
+            Body::Notify { change, own } => (opening, (Field("change", change), own)).write(line),
+            Body::Suggest { change, by } => {
+                (opening, (Field("change", change), Gathered(by))).write(line)
             }
-            Message::Suggest { view, change, by } => {
-                (
-                    Opening(Kind::Suggest, view),
-                    (Field("change", change), Gathered(by)),
-                )
-                    .write(line)
+            Body::Ack { rank, change, own } | Body::Ready { rank, change, own } => {
+                let ranked = Ranked { opening, rank };
+                (Graded { ranked, change }, own).write(line)
             }
-            Message::Ack {
-                view,
-                rank,
-                change,
-                speaker,
-                tag,
-            } => { (Graded(Kind::Ack, view, rank, change), Spoken(speaker, tag)).write(line) }
-            Message::Proposal {
-                view,
-                rank,
-                change,
-                by,
-            } => { (Graded(Kind::Proposal, view, rank, change), Gathered(by)).write(line) }
-            Message::Ready {
-                view,
-                rank,
-                change,
-                speaker,
-                tag,
-            } => {
-                (
-                    Graded(Kind::Ready, view, rank, change),
-                    Spoken(speaker, tag),
-                )
-                    .write(line)
+            Body::Proposal { rank, change, by } | Body::Change { rank, change, by } => {
+                let ranked = Ranked { opening, rank };
+                (Graded { ranked, change }, Gathered(by)).write(line)
             }
-            Message::Change {
-                view,
+            Body::Deputy { rank, own } => (Ranked { opening, rank }, own).write(line),
+            Body::Query { rank, by } => (Ranked { opening, rank }, Gathered(by)).write(line),
+            Body::Last {
                 rank,
-                change,
-                by,
-            } => { (Graded(Kind::Change, view, rank, change), Gathered(by)).write(line) }
-            Message::Deputy {
-                view,
-                rank,
-                speaker,
-                tag,
-            } => { (Ranked(Kind::Deputy, view, rank), Spoken(speaker, tag)).write(line) }
-            Message::Query { view, rank, by } => {
-                (Ranked(Kind::Query, view, rank), Gathered(by)).write(line)
-            }
-            Message::Last {
-                view,
-                rank,
-                speaker,
                 entry,
-                tag,
+                own,
                 proof,
             } => {
-                (
-                    Ranked(Kind::Last, view, rank),
-                    (Reply(speaker, entry, tag), Proof(proof)),
-                )
-                    .write(line)
+                let reply = Reply { entry, own };
+                (Ranked { opening, rank }, (reply, Proof(proof))).write(line)
             }
-            Message::SuggestLast {
-                view,
+            Body::SuggestLast {
                 rank,
                 replies,
                 proof,
-            } => {
-                (
-                    Ranked(Kind::SuggestLast, view, rank),
-                    (replies, Proof(proof)),
-                )
-                    .write(line)
+            } => { (Ranked { opening, rank }, (replies, Proof(proof))).write(line) }
+            Body::Init { content, tag } => {
+                let own = Spoken {
+                    speaker: content.sender,
+                    tag,
+                };
+                (opening, (content, Field("tag", own.tagged()))).write(line)
             }
-            Message::Init { view, content, tag } => {
-                (
-                    Opening(Kind::Init, view),
-                    (content, OwnTag(content.sender, tag)),
-                )
-                    .write(line)
-            }
-            Message::Echo {
-                view,
-                content,
-                speaker,
-                tag,
-            } => { (Opening(Kind::Echo, view), (content, Spoken(speaker, tag))).write(line) }
-            Message::Commit { view, content, by } => {
-                (Opening(Kind::Commit, view), (content, Gathered(by))).write(line)
-            }
+            Body::Echo { content, own } => (opening, (content, own)).write(line),
+            Body::Commit { content, by } => (opening, (content, Gathered(by))).write(line),
         }
     }
 }

@@ -2,7 +2,7 @@
 // The three counts together fit a number of 64 bits, so that they can be added.
 ghost use Rattle.std.specs.Prelude.{◌+◌, ◌^◌, ◌<◌};
 
-#[derive(Clone, Copy)]
+#[derive(Clone, Copy, Debug)]
 pub struct Tally {
     pub ok: u64,
     pub refused: u64,

@@ -20,7 +20,8 @@ fn is_plain(b: u8) -> bool
 // How many bytes stand before the first at which a test says that they end.
 fn front<F: Fn(u8) -> bool>(bytes: &[u8], ends: F) -> usize
     requires { F.IsAlwaysCallable ends }
-    ensures is { (test : ℕ → Bool) → ((b : ℕ) (r : Bool) → F.post ends b r → r ≡ test b) → result ≡ lead (λ b. not (test b)) bytes.now }
+    ensures is { (test : ℕ → Bool) → ((b : ℕ) (r : Bool) → F.post ends b r → r ≡ test b)
+        → result ≡ lead (λ b. not (test b)) bytes.now }
     ensures within { result ≤ length bytes.now }
 {
     bytes.iter().position(|b| ends(*b)).unwrap_or(bytes.len())
