@@ -10,10 +10,9 @@ use Rattle.boards.proofs.Sets.{place_first, place_last, place_below, place_next}
 use Rattle.grammar.specs.Grammar.{Grammar, Item, After, from_to}
 use Rattle.wire.specs.declared.message.Entries.{Entries}
 use Rattle.wire.specs.declared.message.Entries.TheVariants.{Heard, Stored}
-use Rattle.wire.specs.Fields.{entered, entries, proof}
+use Rattle.wire.specs.Fields.{entered, entries, most_change, proof}
 use Rattle.wire.specs.Messages.{Reply, listed, reply_at, replies_in, replies_of}
 use Rattle.wire.specs.Format.{reply_values, replies_values, set_values}
-use Rattle.head.specs.Shapes.{most_change}
 use Rattle.layout.specs.Measures.{Bytes, Even, Evened, Short, Replied, reply_of, proper, WholeTag, Going, Gathers, Ungathered}
 use Rattle.grammar.proofs.Held.{onward, rest_after}
 use Rattle.layout.proofs.Rests.{un_num, un_raw, un_wide}
