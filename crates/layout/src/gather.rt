@@ -34,25 +34,26 @@ fn even(replies: Replies<'_>) -> bool
     ensures { Evened replies.entry.set.bits replies.entry.entries result }
 {
     match replies.entries {
-        Entries::Heard(bytes) => count(bytes) == 9 * replies.set.len() as usize,
+        Entries::Heard(bytes) => count(bytes) == 9 * usize::from(replies.set.len()),
         Entries::Stored { .. } => true,
     }
 }
 
 // A board's entry and tag, if it is of the set and its nine bytes are there.
+// Apart from `entry_of` and `reply_tag` of crate signed: there the entry's byte alone tells what a tag stands for, even of one cut short; writing wants all nine or nothing.
 pub fn reply<'a>(replies: Replies<'a>, board: u8) -> Option<(Entry, Tags<'a>)>
     ensures { Replied replies.entry.set.bits replies.entry.entries board result }
 {
     let rank = replies.set.rank(board)?;
     match replies.entries {
         Entries::Heard(bytes) => {
-            let at = 9 * (rank as usize - 1);
+            let at = 9 * (usize::from(rank) - 1);
             let (entry, tag) = bytes.get(at..at + 9)?.split_first()?;
             Some((Entry::from(*entry), Tags::Heard(tag)))
         }
         Entries::Stored { entries, tags } => Some((
-            entries[board as usize],
-            Tags::Fresh(tags[board as usize]),
+            entries[usize::from(board)],
+            Tags::Fresh(tags[usize::from(board)]),
         )),
     }
 }

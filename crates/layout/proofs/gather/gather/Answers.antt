@@ -35,9 +35,6 @@ loop-board-preserved c =
       | in_default w ↦ subst (Going s es (b + 1)) (sym w.top-is) (skip c.loop-board.invariant (absent s es b (evens _ _ _ c.even.ensures c.if-not-even.false) w.in_default.ensures))
     ]
 
-pub invariant_of-result : goal.invariant_of-result
-invariant_of-result c = record { even = evens _ _ _ c.even.ensures c.if-not-even.false }
-
 pub returns : goal.returns
 returns c =
     let q = c.args.replies in
