@@ -16,16 +16,10 @@ pub(crate) fn gather<'a>(replies: Replies<'a>) -> Option<Gathered<'a>>
     if !even(replies) {
         return None;
     }
-    // Tried as `filter_map` and `try_fold`, and the proof was left open: what has passed is told by board number, which the chain drops.
-    let mut top: u8 = 0;
-    for board in 0..8 {
-        if let Some((entry, _)) = reply(replies, board) {
-            if !allowed(entry) {
-                return None;
-            }
-            top = top.max(entry.earlier);
-        }
-    }
+    let top = (0..8).try_fold(0u8, |top, board| match reply(replies, board) {
+        Some((entry, _)) => allowed(entry).then_some(top.max(entry.earlier)),
+        None => Some(top),
+    })?;
     Some(Gathered { replies, top })
 }
 
@@ -40,7 +34,8 @@ fn even(replies: Replies<'_>) -> bool
 }
 
 // A board's entry and tag, if it is of the set and its nine bytes are there.
-// Apart from `entry_of` and `reply_tag` of crate signed: there the entry's byte alone tells what a tag stands for, even of one cut short; writing wants all nine or nothing.
+// Apart from `entry_of` and `reply_tag` of crate signed: what a tag stands for is told by its entry's byte alone, even if the tag is cut short;
+// writing wants all nine bytes or nothing.
 pub fn reply<'a>(replies: Replies<'a>, board: u8) -> Option<(Entry, Tags<'a>)>
     ensures { Replied replies.entry.set.bits replies.entry.entries board result }
 {
