@@ -1,15 +1,11 @@
 -- What fields that may stand first tell of their values.
--- A payload after its head, and a message known by its kind.
-use Rattle.std.proofs.Common.{◌≡◌, ℕ, ◌<◌, true, List, ◌∷◌, Option, sym, subst, arith}
-use Rattle.std.proofs.lemmas.Bool.{and_from, eqb-true, le-leb}
+-- A payload after its head, and a set of one board.
+use Rattle.std.proofs.Common.{◌≡◌, ℕ, ◌<◌, true, List, ◌∷◌, subst}
+use Rattle.std.proofs.lemmas.Bool.{eqb-true}
 use Rattle.boards.specs.Boards.{size}
-use Rattle.grammar.specs.Grammar.{Grammar, Item, After, from_to}
-use Rattle.wire.specs.declared.message.Message.{Message}
+use Rattle.grammar.specs.Grammar.{Grammar, Item, After}
 use Rattle.wire.specs.Fields.{lone, carried}
-use Rattle.wire.specs.Messages.{meaning}
 use Rattle.wire.specs.Format.{message, body, opening}
-use Rattle.layout.specs.declared.plan.Layout.{Layout}
-use Rattle.layout.specs.Layouts.{LaidOut}
 use Rattle.layout.proofs.Rests.{un_num}
 
 -- what follows kind and view
@@ -25,11 +21,3 @@ pub carried_small : {k v s n t p : ℕ} {is : List Item} {f : ℕ → Grammar} {
 carried_small {k} {v} {s} {n} {t} {p} {is} {f} {l} e a =
     let b = subst (λ g. After g (Item.num 3 s ∷ Item.num 8 n ∷ Item.num 3 t ∷ Item.num 6 p ∷ is) l) e (body_of a) in
     ((un_num b).0, (un_num (un_num (un_num (un_num b).2).2).2).0)
-
--- what is known of a message at its kind is known of the message
-pub known : {m m' : Message} (r : Option Layout) → m ≡ m' → LaidOut (meaning m') r → LaidOut (meaning m) r
-known r e p = subst (λ x. LaidOut (meaning x) r) (sym e) p
-
--- every byte is a set
-pub any_set : {s : ℕ} → s < 256 → from_to 0 255 s ≡ true
-any_set {s} h = and_from _ _ (le-leb 0 s (omega arith)) (le-leb s 255 (omega arith))

@@ -1,6 +1,6 @@
 -- Head and middle together: nothing, a payload, a tag or replies after the head.
 -- Each middle spells its fields, and the message goes on after it.
-use Rattle.std.proofs.Common.{◌≡◌, ℕ, ◌+◌, ◌*◌, ◌%◌, ◌≤◌, List, [], ◌∷◌, ◌++◌, length, sym, refl, ap, subst, ◌∙◌, arith, length-append, Bor, true, ◌&&◌, leb, eqb}
+use Rattle.std.proofs.Common.{◌≡◌, ℕ, ◌+◌, ◌*◌, ◌%◌, ◌≤◌, List, [], ◌∷◌, ◌++◌, length, sym, refl, ap, subst, ◌∙◌, arith, length-append, Bor, Some, None, Option, Bool, true, ◌&&◌, leb, eqb}
 use Rattle.std.specs.List.{AllByRecursion}
 use Rattle.std.proofs.lemmas.Bool.{and_parts, eqb-true, leb-true}
 use Rattle.std.proofs.lemmas.List.{append_assoc}
@@ -8,28 +8,31 @@ use Rattle.std.proofs.ByRecursion.{All-append}
 use Rattle.boards.specs.Boards.{size, member, place}
 use Rattle.boards.proofs.Sets.{size_le, place_last}
 use Rattle.grammar.specs.Bits.{bits_of, bits}
-use Rattle.grammar.specs.Grammar.{Grammar, Item, After, spell}
+use Rattle.grammar.specs.Grammar.{Grammar, Item, After, from_to, spell}
 use Rattle.grammar.proofs.Bits.{low, bits_append}
 use Rattle.grammar.proofs.Cuts.{spell_append}
 use Rattle.grammar.proofs.Held.{onward}
 use Rattle.head.specs.declared.number.Head.{Head}
-use Rattle.head.specs.Heads.{Holds}
+use Rattle.head.specs.Heads.{Begins, Holds, Joined}
+use Rattle.head.specs.Shapes.{Opens}
 use Rattle.head.proofs.Joins.{beside}
-use Rattle.head.proofs.Steps.{wide_as}
+use Rattle.head.proofs.Steps.{step, wide_as}
 use Rattle.wire.specs.declared.message.Tagged.{Tagged}
 use Rattle.wire.specs.declared.message.Entries.{Entries}
 use Rattle.wire.specs.declared.message.Replies.{Replies as RepliesOf}
 use Rattle.wire.specs.Fields.{entries}
 use Rattle.wire.specs.Messages.{Reply, tags_by, replies_of, replies_by, listed}
-use Rattle.wire.specs.Format.{message, replies_values}
+use Rattle.wire.specs.Format.{body, message, opening, replies_values}
 use Rattle.wire.proofs.Widths.{wide}
 use Rattle.layout.specs.declared.plan.Gathered.{Gathered}
+use Rattle.layout.specs.declared.plan.Layout.{Layout}
 use Rattle.layout.specs.declared.plan.Middle.{Middle}
 use Rattle.layout.specs.declared.plan.Middle.TheVariants.{Nothing, Payload, Tag, Replies}
 use Rattle.layout.specs.Measures.{Bytes, WholeTag, Even, reply_of, Gathers}
-use Rattle.layout.specs.Layouts.{Bare, Fronts, middle_bytes, replies_bytes}
+use Rattle.layout.specs.Layouts.{Bare, Fronts, Laid, middle_bytes, replies_bytes}
 use Rattle.layout.specs.declared.plan.Front.{Front}
 use Rattle.layout.proofs.Packed.{bytes, head_bits}
+use Rattle.layout.proofs.Seals.{unlaid}
 use Rattle.layout.proofs.Replies.{all_listed, listed_long, replies_listed, tag_long}
 
 -- A head of whole bytes, and a middle that a message goes on with.
@@ -50,9 +53,6 @@ fronted {h} {is} m js p w e f l a =
 nothing : bits [] ≡ spell []
 unfolding bits spell
 nothing = refl
-
-pub plain : {h : Head} {is : List Item} {g : Grammar} → Holds message h is g → (leb 8 (wide is) && eqb (wide is % 8) 0) ≡ true → Fronts (record { head = h; middle = Nothing }) (is ++ []) g
-plain p w = fronted Nothing [] p w nothing tt (omega arith) After.start
 
 pub loaded : {h : Head} {is : List Item} {g : Grammar} (p : Bor (List ℕ)) → Holds message h is (Grammar.part (length p.now) (λ _. g)) → (leb 8 (wide is) && eqb (wide is % 8) 0) ≡ true → Bytes p.now → length p.now ≤ 72 → Fronts (record { head = h; middle = Payload p }) (is ++ Item.raw p.now ∷ []) g
 loaded p o w f l = fronted (Payload p) (Item.raw p.now ∷ []) o w (bytes p.now) f l (After.then_raw refl f After.start)
@@ -105,6 +105,18 @@ replied k x q e o w g =
     fronted (Replies x) (replies_values rs) o w (ap (λ z. bits (replies_bytes (replies_by z))) e ∙ replies_bits rs) (subst (λ z. Bytes (replies_bytes (replies_by z))) (sym e) (replies_fit rs g.tags))
     (omega (arith, replies_even y.set.bits y.entries x.even, size_le y.set.bits)) (g.goes k)
 
--- a front by its parts
-pub bare : {f : Front} {h : Head} {is : List Item} {g : Grammar} → Bare h f → Fronts (record { head = h; middle = Nothing }) is g → Fronts f is g
-bare {is = is} {g = g} e p = subst (λ x. Fronts x is g) (sym e) p
+-- The head that a kind opens with, by what the table has for the kind.
+pub opened : {k : ℕ} {is : List Item} {from on : Grammar → Grammar} {h : Head} (g : Grammar) → Opens k is from on (Some h) → from_to 1 13 k ≡ true → body k ≡ from g → Holds message h is (on g)
+opened g p o e = (p.begins (from_to 1 13) body g o e).holds _ refl
+
+-- Nothing is laid out where a head may not stand.
+pub headless : {k : ℕ} {is : List Item} {from on : Grammar → Grammar} {r : Option Layout} (g : Grammar) (js : List Item) → Opens k is from on None → r ≡ None → from_to 1 13 k ≡ true → body k ≡ from g → Laid (is ++ js) r
+headless g js p n o e = unlaid js n ((p.begins (from_to 1 13) body g o e).none refl)
+
+-- A head alone, where it is whole bytes.
+pub headed : {k : ℕ} {is : List Item} {from on : Grammar → Grammar} {h : Head} {f : Front} (g : Grammar) → Opens k is from on (Some h) → Bare h f → from_to 1 13 k ≡ true → body k ≡ from g → (leb 8 (wide is) && eqb (wide is % 8) 0) ≡ true → Fronts f (is ++ []) (on g)
+headed {is = is} {on = on} g p b o e w = subst (λ x. Fronts x (is ++ []) (on g)) (sym b) (fronted Nothing [] (opened g p o e) w nothing tt (omega arith) After.start)
+
+-- A set's byte behind kind, view and rank.
+pub with_set : {k v r b s : ℕ} {ok : ℕ → Bool} {n : ℕ → Grammar} {h : Head} {o : Option Head} → Holds message h (opening k v (Item.num 4 r ∷ [])) (Grammar.field 8 ok n) → b ≡ s → Joined h 8 b (from_to 0 255 b) o → ok s ≡ from_to 0 255 s → Begins message (opening k v (Item.num 4 r ∷ []) ++ Item.num 8 s ∷ []) (n s) o
+with_set {h = h} {o = o} p e j g = step p (subst (λ x. Joined h 8 x (from_to 0 255 x) o) e j) g (omega arith, omega (arith, wide_as p))

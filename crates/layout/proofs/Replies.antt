@@ -1,19 +1,23 @@
 -- Replies by rising board number: they are what is heard or stored, and stand one after another.
 -- Board by board they may stand, or one of them, or their number, may not.
-use Rattle.std.proofs.Common.{◌≡◌, ℕ, zero, suc, ◌+◌, ◌-◌, ◌*◌, ◌/◌, ◌<◌, ◌≤◌, max, Bool, true, false, cond, eqb, leb, List, [], ◌∷◌, ◌++◌, length, get_or, drop, None, sym, refl, ap, ◌∙◌, subst, ⊎_elim, add-zero, add-one, arith, length-append}
+use Rattle.std.proofs.Common.{◌≡◌, ℕ, zero, suc, ◌+◌, ◌-◌, ◌*◌, ◌/◌, ◌<◌, ◌≤◌, max, Bool, true, false, cond, eqb, leb, List, [], ◌∷◌, ◌++◌, length, get_or, drop, Some, None, Option, sym, refl, ap, ◌∙◌, subst, ⊎_elim, add-zero, add-one, arith, length-append}
 use Rattle.std.specs.List.{AllByRecursion}
 use Rattle.std.proofs.lemmas.List.{append_assoc, append-nil, length-take-le, length-take, length-drop}
 use Rattle.std.proofs.ByRecursion.{All-push, All-take, All-drop}
+use Rattle.std.proofs.lemmas.Option.{same_Some}
+use Rattle.std.specs.Bool.{then_some}
+use Rattle.std.specs.Option.{MatchOption}
 use Rattle.std.proofs.lemmas.Bool.{both_ways, and_parts, and_from, leb-true, cond_both, cases_eq, cases_Bool, eq-eqb, eqb-true}
 use Rattle.boards.specs.Boards.{member, size, place, tally, one}
 use Rattle.boards.proofs.Sets.{place_first, place_last, place_below, place_next}
 use Rattle.grammar.specs.Grammar.{Grammar, Item, After, from_to}
+use Rattle.wire.specs.declared.message.Entry.{Entry}
+use Rattle.wire.specs.declared.message.Tags.{Tags}
 use Rattle.wire.specs.declared.message.Entries.{Entries}
 use Rattle.wire.specs.declared.message.Entries.TheVariants.{Heard, Stored}
-use Rattle.wire.specs.Fields.{entered, entries, proof}
+use Rattle.wire.specs.Fields.{entered, entries, most_change, proof}
 use Rattle.wire.specs.Messages.{Reply, listed, reply_at, replies_in, replies_of}
 use Rattle.wire.specs.Format.{reply_values, replies_values, set_values}
-use Rattle.head.specs.Shapes.{most_change}
 use Rattle.layout.specs.Measures.{Bytes, Even, Evened, Short, Replied, reply_of, proper, WholeTag, Going, Gathers, Ungathered}
 use Rattle.grammar.proofs.Held.{onward, rest_after}
 use Rattle.layout.proofs.Rests.{un_num, un_raw, un_wide}
@@ -213,3 +217,19 @@ uneven s (Heard xs) r v e = λ p a after.
     let long = last_whole n ys c.1 in
     absurd (both_ways _ (sym v.0 ∙ e) (eq-eqb (length ys) (9 * size s) (omega arith)))
 uneven s (Stored es ts) r v e = absurd (both_ways _ e v)
+
+-- A board's turn: its reply, and what becomes of the highest earlier rank.
+abbrev pub Turn : ℕ → Entries → ℕ → ℕ → Option ℕ → Type 0
+Turn s es top b v = (x : Option (Entry × Tags)) × Replied s es b x × MatchOption x (v ≡ Some top) (λ y. v ≡ then_some (proper y.0) (max top y.0.earlier))
+
+pub turned : {s : ℕ} {es : Entries} {b top high : ℕ} (r : Bool) → Evened s es r → r ≡ true → Going s es b top → Turn s es top b (Some high) → Going s es (b + 1) high
+turned {s} {es} {b} r v e g (None, p, q) = subst (Going s es (b + 1)) (same_Some _ _ (sym q)) (skip g (absent s es b (evens s es r v e) p))
+turned {s} {es} {b} {top} {high} r v e g (Some y, p, q) =
+    ⊎_elim (λ t. subst (Going s es (b + 1)) (ap (λ n. max top n.earlier) (sym p.1) ∙ sym (same_Some _ _ (q ∙ ap (λ z. then_some z (max top y.0.earlier)) t))) (next g p.0 (ap proper (sym p.1) ∙ t) (tag_of_even s es b r v e p.0)))
+    (λ f. let n = q ∙ ap (λ z. then_some z (max top y.0.earlier)) f in cc) (cases_Bool (proper y.0))
+
+pub stopped : {s : ℕ} {es : Entries} {b top : ℕ} → Even s es → b < 8 → Going s es b top → Turn s es top b None → Ungathered s es
+stopped h l g (None, p, q) = absurd (cc)
+stopped {s} {es} {b} {top} h l g (Some y, p, q) =
+    ⊎_elim (λ t. let n = q ∙ ap (λ z. then_some z (max top y.0.earlier)) t in absurd (cc))
+    (λ f. improper h g l p.0 (ap proper (sym p.1) ∙ f)) (cases_Bool (proper y.0))

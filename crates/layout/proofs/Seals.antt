@@ -1,27 +1,28 @@
 -- A set and its tags at the end of a message.
 -- With them the fields are a message's, if tags and set are as the format wants; else no message's.
-use Rattle.std.proofs.Common.{◌≡◌, ℕ, zero, suc, ◌*◌, ◌<◌, ◌≤◌, Bool, true, false, eqb, List, [], ◌∷◌, ◌++◌, length, None, Option, sym, ap, ◌∙◌, subst, arith, length-append}
+use Rattle.std.proofs.Common.{◌≡◌, ℕ, zero, suc, ◌*◌, ◌<◌, ◌≤◌, Bool, true, false, eqb, List, [], ◌∷◌, ◌++◌, length, None, Option, sym, refl, ap, ◌∙◌, subst, arith, length-append}
 use Rattle.std.proofs.ByRecursion.{All-append}
-use Rattle.std.proofs.lemmas.Bool.{both_ways, eq-eqb, ne_eqb}
+use Rattle.std.proofs.lemmas.Bool.{and_from, both_ways, eq-eqb, le-leb, ne_eqb}
 use Rattle.boards.specs.Boards.{size, only}
 use Rattle.boards.proofs.Members.{only_above}
 use Rattle.boards.proofs.Sets.{size_le, size_only, size_none, size_zero}
 use Rattle.grammar.specs.Bits.{bits}
-use Rattle.grammar.specs.Grammar.{Grammar, Item, After, spell}
+use Rattle.grammar.specs.Grammar.{Grammar, Item, After, from_to, spell}
 use Rattle.grammar.proofs.Bits.{bits_append}
 use Rattle.grammar.proofs.Cuts.{spell_append}
 use Rattle.grammar.proofs.Held.{held, onward, rest_after}
 use Rattle.head.specs.Heads.{Barred}
 use Rattle.head.proofs.Steps.{barred_more}
 use Rattle.wire.specs.declared.message.Tagged.{Tagged}
-use Rattle.wire.specs.Fields.{lone}
-use Rattle.wire.specs.Messages.{tags_by}
+use Rattle.wire.specs.declared.message.Spoken.{Spoken}
+use Rattle.wire.specs.Fields.{lone, lone_tag, tagged}
+use Rattle.wire.specs.Messages.{tag_by, tags_by}
 use Rattle.wire.specs.Format.{message, set_values}
 use Rattle.wire.proofs.Packed.{packed_is}
 use Rattle.layout.specs.declared.plan.Front.{Front}
 use Rattle.layout.specs.declared.plan.Layout.{Layout}
 use Rattle.layout.specs.Measures.{Bytes}
-use Rattle.layout.specs.Layouts.{Fronts, Laid, Lays, front_bytes, head_bytes, middle_bytes}
+use Rattle.layout.specs.Layouts.{Alone, Fronts, Laid, Lays, Sealed, front_bytes, head_bytes, middle_bytes}
 use Rattle.layout.proofs.Packed.{byte, bytes, head_fit, head_long}
 
 -- a set and its tags, as bits
@@ -56,6 +57,10 @@ lays f q is ok n p low o k l b =
 pub misfit : (s : ℕ) (ts : List ℕ) (ok : ℕ → Bool) (n : ℕ → ℕ) → n s ≡ 8 * size s → eqb (length ts) (8 * size s) ≡ false → After (Grammar.field 8 ok (λ x. Grammar.part (n x) (λ _. Grammar.done))) (set_values s ts) Grammar.done → ⊥
 misfit s ts ok n k e a = absurd (both_ways _ e (eq-eqb _ _ ((held a).3.0 ∙ k)))
 
+-- every byte is a set
+pub any_set : {s : ℕ} → s < 256 → from_to 0 255 s ≡ true
+any_set {s} h = and_from _ _ (le-leb 0 s (omega arith)) (le-leb s 255 (omega arith))
+
 -- a set of one board is one that there is
 pub lone_below : (b : ℕ) → b < 8 → lone (only b) ≡ true
 unfolding lone
@@ -69,3 +74,10 @@ lone_above b h = ap (λ s. eqb (size s) 1) (only_above b h) ∙ ap (λ n. eqb n 
 pub boardless : (s : ℕ) → s < 256 → eqb (size s) 0 ≡ eqb s 0
 boardless zero h = ap (λ n. eqb n 0) size_none
 boardless (suc s) h = ne_eqb _ _ (λ z. let e : suc s ≡ 0 = size_zero (suc s) h z in cc) ∙ sym (ne_eqb (suc s) 0 (λ z. cc))
+
+-- A front before any lone speaker, and before any set.
+pub spoken : {f : Front} {is : List Item} (q : Spoken) (r : Option Layout) → Alone f q.speaker q.tag r → Fronts f is (lone_tag Grammar.done) → Laid (is ++ set_values (only q.speaker) (tag_by q)) r
+spoken q r a p = a _ _ p (lone_below q.speaker) (lone_above q.speaker)
+
+pub gathered : {f : Front} {is : List Item} (q : Tagged) (r : Option Layout) → Sealed f q r → Fronts f is (tagged Grammar.done) → Laid (is ++ set_values q.set.bits (tags_by q)) r
+gathered q r a p = a _ _ _ p any_set refl

@@ -9,8 +9,7 @@ use Rattle.wire.specs.declared.message.Tagged.{Tagged}
 use Rattle.wire.specs.declared.message.Entry.{Entry}
 use Rattle.wire.specs.declared.message.Entries.{Entries}
 use Rattle.wire.specs.declared.message.Entries.TheVariants.{Heard, Stored}
-use Rattle.head.specs.Shapes.{most_change}
-use Rattle.wire.specs.Fields.{entries, proof}
+use Rattle.wire.specs.Fields.{entries, most_change, proof}
 use Rattle.wire.specs.Messages.{Reply, tags_of, tags_by, tag_bytes, none, reply_at, replies_of, listed}
 use Rattle.wire.specs.Format.{replies_values, set_values}
 

@@ -16,16 +16,10 @@ pub(crate) fn gather<'a>(replies: Replies<'a>) -> Option<Gathered<'a>>
     if !even(replies) {
         return None;
     }
-    // Tried as `filter_map` and `try_fold`, and the proof was left open: what has passed is told by board number, which the chain drops.
-    let mut top: u8 = 0;
-    for board in 0..8 {
-        if let Some((entry, _)) = reply(replies, board) {
-            if !allowed(entry) {
-                return None;
-            }
-            top = top.max(entry.earlier);
-        }
-    }
+    let top = (0..8).try_fold(0u8, |top, board| match reply(replies, board) {
+        Some((entry, _)) => allowed(entry).then_some(top.max(entry.earlier)),
+        None => Some(top),
+    })?;
     Some(Gathered { replies, top })
 }
 
@@ -34,25 +28,27 @@ fn even(replies: Replies<'_>) -> bool
     ensures { Evened replies.entry.set.bits replies.entry.entries result }
 {
     match replies.entries {
-        Entries::Heard(bytes) => count(bytes) == 9 * replies.set.len() as usize,
+        Entries::Heard(bytes) => count(bytes) == 9 * usize::from(replies.set.len()),
         Entries::Stored { .. } => true,
     }
 }
 
 // A board's entry and tag, if it is of the set and its nine bytes are there.
+// Apart from `entry_of` and `reply_tag` of crate signed: what a tag stands for is told by its entry's byte alone, even if the tag is cut short;
+// writing wants all nine bytes or nothing.
 pub fn reply<'a>(replies: Replies<'a>, board: u8) -> Option<(Entry, Tags<'a>)>
     ensures { Replied replies.entry.set.bits replies.entry.entries board result }
 {
     let rank = replies.set.rank(board)?;
     match replies.entries {
         Entries::Heard(bytes) => {
-            let at = 9 * (rank as usize - 1);
+            let at = 9 * (usize::from(rank) - 1);
             let (entry, tag) = bytes.get(at..at + 9)?.split_first()?;
             Some((Entry::from(*entry), Tags::Heard(tag)))
         }
         Entries::Stored { entries, tags } => Some((
-            entries[board as usize],
-            Tags::Fresh(tags[board as usize]),
+            entries[usize::from(board)],
+            Tags::Fresh(tags[usize::from(board)]),
         )),
     }
 }

@@ -10,6 +10,7 @@ use crate::plan::{Front, Layout, Middle};
 use crate::seal::lone;
 use head::number::Head;
 use head::shapes::{carried, entered, graded, noted, ranked};
+use wire::field::SET;
 use wire::kind::Kind;
 use wire::message::{Body, Content, Entry, Message, Replies, Spoken, Tagged};
 
@@ -85,7 +86,7 @@ fn behind<'a>(head: Head, payload: &'a [u8]) -> Front<'a>
 fn last<'a>(head: Head, entry: Entry, own: Tagged<'a>, proof: Tagged<'a>) -> Option<Layout<'a>>
     ensures { LaidLast head entry own.entry proof.entry result }
 {
-    let head = entered(head.field(8, own.set.bits as usize)?, entry)?;
+    let head = entered(head.of(SET, usize::from(own.set.bits))?, entry)?;
     if !fits(own) {
         return None;
     }
@@ -100,7 +101,7 @@ fn last<'a>(head: Head, entry: Entry, own: Tagged<'a>, proof: Tagged<'a>) -> Opt
 fn suggest_last<'a>(head: Head, replies: Replies<'a>, proof: Tagged<'a>) -> Option<Layout<'a>>
     ensures { LaidSuggestLast head replies.entry proof.entry result }
 {
-    let head = head.field(8, replies.set.bits as usize)?;
+    let head = head.of(SET, usize::from(replies.set.bits))?;
     let gathered = gather(replies)?;
     let front = Front {
         head,

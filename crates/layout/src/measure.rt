@@ -17,7 +17,7 @@ pub(crate) fn fits(by: Tagged<'_>) -> bool
     ensures { Measured by.entry result }
 {
     match by.tags {
-        Tags::Heard(bytes) => count(bytes) == 8 * by.set.len() as usize,
+        Tags::Heard(bytes) => count(bytes) == 8 * usize::from(by.set.len()),
         Tags::Stored(_) => true,
         Tags::Fresh(_) => by.set.len() == 1,
     }

@@ -9,6 +9,7 @@ use wire::message::{Replies, Tagged};
 #[derive(Clone, Copy)]
 pub struct Gathered<'a> {
     pub replies: Replies<'a>,
+    // No `Option`: entries have 0 as their own word for none, the format's rule for a proof speaks of it, and a maximum over them needs no case.
     pub top: u8,
     ghost even: { Even replies.set.bits replies.entries },
 }
