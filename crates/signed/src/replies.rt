@@ -59,12 +59,9 @@ fn lowest_heard(bytes: &[u8]) -> Entry
 fn lowest_stored(set: Set, entries: &[Entry; 8]) -> Entry
     ensures { (ts : List ℕ) → result ≡ lowest (stored_replies set.bits entries.now ts) }
 {
-    (0..8u8)
-        .rev()
-        .filter(|board| set.has(*board))
-        .fold(Entry::NONE, |found, board| {
-            lower(entries[usize::from(board)], found)
-        })
+    set.boards().rev().fold(Entry::NONE, |found, board| {
+        lower(entries[usize::from(board)], found)
+    })
 }
 
 // The entry of the lowest earlier rank among the replies of a set.

@@ -5,7 +5,7 @@ use Rattle.grammar.specs.Grammar.{Grammar, Item}
 use Rattle.head.specs.declared.number.Head.{Head}
 use Rattle.head.specs.Heads.{Begins}
 use Rattle.wire.specs.Acts.{Act, signed, signed_values}
-use Rattle.words.specs.declared.text.Words.{Words}
+use Rattle.bounded.specs.declared.Bytes.{Bytes}
 use Rattle.words.specs.Said.{Spelt}
 
 -- What an act carries behind its fields: a payload, or nothing.
@@ -47,5 +47,5 @@ pub record Stated (a : Act) (r : Option Head) : Type 0 where
   pub short : (h : Head) → r ≡ Some h → length (load a) ≤ 48
 
 -- A head and then a payload as words: those of any act that the head states and whose load the payload is.
-abbrev pub PutTogether : Head → List ℕ → Words → Type 0
+abbrev pub PutTogether : Head → List ℕ → Bytes 52 → Type 0
 PutTogether h p w = (a : Act) → Stated a (Some h) → load a ≡ p → Spelt a (Some w)

@@ -1,11 +1,12 @@
 -- What a statement of the program is as an act, and when words are the words of an act.
 -- A statement that the format does not allow has no words.
-use Rattle.std.specs.Prelude.{◌≡◌, ℕ, List, take, Some, None, Option}
+use Rattle.std.specs.Prelude.{◌≡◌, ℕ, List, Some, None, Option}
 use Rattle.wire.specs.Acts.{Act, Allowed, words}
 use Rattle.words.specs.declared.statement.Statement.{Statement}
 use Rattle.words.specs.declared.statement.Claim.{Claim}
 use Rattle.words.specs.declared.statement.Claim.TheVariants.{Notify, Ack, Ready, Deputy, Last, Init, Echo}
-use Rattle.words.specs.declared.text.Words.{Words}
+use Rattle.bounded.specs.declared.Bytes.{Bytes}
+use Rattle.bounded.specs.Held.{held}
 
 -- The act of a claim in view v.
 abbrev pub claimed : ℕ → Claim → Act
@@ -21,11 +22,7 @@ claimed v (Echo c) = Act.echo v c.sender c.number c.sort c.payload.now
 abbrev pub said : Statement → Act
 said s = claimed s.view s.claim
 
--- The bytes of words.
-abbrev pub text : Words → List ℕ
-text w = take w.len w.bytes
-
 -- Words are those of an allowed act; there are none exactly if the act is not allowed.
-abbrev pub Spelt : Act → Option Words → Type 0
-Spelt a (Some w) = Allowed a × (text w ≡ words a)
+abbrev pub Spelt : Act → Option (Bytes 52) → Type 0
+Spelt a (Some w) = Allowed a × (held w ≡ words a)
 Spelt a None = Allowed a → ⊥

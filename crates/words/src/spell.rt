@@ -1,23 +1,15 @@
 // The words of a statement: a head of whole bytes, and in an init or an echo the payload.
-// They are put together in one array, each byte once.
-ghost use Rattle.std.specs.Prelude.{◌≡◌, ◌+◌, ◌%◌, ◌≤◌, ◌++◌, length};
-ghost use Rattle.words.specs.Said.{said, text, Spelt};
+// They are put together in one buffer, each byte once.
+ghost use Rattle.std.specs.Prelude.{◌≡◌, ◌%◌, ◌≤◌, length};
+ghost use Rattle.words.specs.Said.{said, Spelt};
 ghost use Rattle.words.specs.Openings.{load, PutTogether, Stated};
 
 use crate::statement::{Claim, Statement};
 use crate::text::Words;
+use bounded::Bytes;
 use head::number::Head;
 use head::shapes::{carried, entered, graded, noted, ranked};
 use wire::kind::Kind;
-
-impl Words {
-    // The words as bytes.
-    pub fn as_slice(&self) -> &[u8]
-        ensures { result.now ≡ text self.now }
-    {
-        &self.bytes[..self.len]
-    }
-}
 
 impl<'a> Statement<'a> {
     // The words signed for a statement; none for one that no message could hold.
@@ -60,18 +52,6 @@ fn spelt(head: Head, payload: &[u8]) -> Words
     ensures { PutTogether head payload.now result }
 {
     let first = head.bytes();
-    joined(&first[..(head.width / 8) as usize], payload)
-}
-
-// Two parts as words, one behind the other.
-fn joined(front: &[u8], back: &[u8]) -> Words
-    requires { length front.now + length back.now ≤ 52 }
-    ensures { text result ≡ front.now ++ back.now }
-{
-    let at = front.len();
-    let len = at + back.len();
-    let mut bytes = [0; 52];
-    bytes[..at].copy_from_slice(front);
-    bytes[at..len].copy_from_slice(back);
-    Words { bytes, len }
+    let front = Bytes::of(&first[..(head.width / 8) as usize]).unwrap();
+    front.with(payload).unwrap()
 }
