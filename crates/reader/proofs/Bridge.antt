@@ -1,9 +1,10 @@
 -- A reader's fields are the numbers of its bits: the one bridge from bytes and shifts to the bits of the format.
 -- Laws used: grammar's Bits and Steps.
-use Rattle.std.proofs.Common.{◌≡◌, ℕ, zero, suc, ◌+◌, ◌-◌, ◌*◌, ◌/◌, ◌%◌, ◌^◌, ◌<◌, ◌≤◌, Bool, true, false, List, [], ◌∷◌, ◌++◌, length, get_or, take, drop, Ok, Err, sym, ap, ◌∙◌, add-zero, arith, length-drop, take-append-drop, drop_of_length-le, length-take-le, get_or-drop, drop-drop, take_at, drop_at, Bor}
+use Rattle.std.proofs.Common.{◌≡◌, ℕ, ◌+◌, ◌-◌, ◌*◌, ◌/◌, ◌%◌, ◌^◌, ◌<◌, ◌≤◌, Bool, true, false, List, [], ◌∷◌, ◌++◌, length, get_or, take, drop, Ok, Err, sym, ap, ◌∙◌, add-zero, arith, length-drop, take-append-drop, drop_of_length-le, length-take-le, get_or-drop, drop-drop, take_at, drop_at, Bor}
 use lib.Seq.{take-append-le, drop-append-le}
-use Rattle.std.specs.List.{AllByRecursion}
+use Rattle.std.specs.List.{All}
 use Rattle.std.proofs.lemmas.List.{append_assoc, append-nil}
+use Rattle.std.proofs.lemmas.List.Elements.{All-from_get_or, All-take, All-drop, recursion_from_All}
 use Rattle.grammar.specs.declared.fault.Fault.{Fault}
 use Rattle.grammar.specs.declared.fault.Layer.TheVariants.{Bytes, Field}
 use Rattle.grammar.specs.Bits.{bits_of, number_of, bits, bytes_of}
@@ -92,19 +93,8 @@ none_left s w ok o {f} h k =
     let q : (at s + length (drop (at s) (bits (src s)))) / 8 ≡ length (src s) = omega (arith, l, s.small, s.inside, h.0) in
     field_short w ok k _ (at s) (omega (arith, l, h.0)) ∙ ap (λ n. Err (fault Bytes n)) q ∙ ap (λ n. Err n) (sym h.1)
 
-pub all_below : (xs : List ℕ) → ((i : ℕ) → get_or xs i 0 < 256) → AllByRecursion (λ x. x < 256) xs
-all_below [] h = tt
-all_below (x ∷ xs) h = (h 0, all_below xs (λ i. h (suc i)))
-
-all_drop : (n : ℕ) (xs : List ℕ) → AllByRecursion (λ x. x < 256) xs → AllByRecursion (λ x. x < 256) (drop n xs)
-all_drop zero xs a = a
-all_drop (suc n) [] a = tt
-all_drop (suc n) (x ∷ xs) a = all_drop n xs a.1
-
-all_take : (n : ℕ) (xs : List ℕ) → AllByRecursion (λ x. x < 256) xs → AllByRecursion (λ x. x < 256) (take n xs)
-all_take zero xs a = tt
-all_take (suc n) [] a = tt
-all_take (suc n) (x ∷ xs) a = (a.0, all_take n xs a.1)
+pub all_bytes : (xs : List ℕ) → ((i : ℕ) → get_or xs i 0 < 256) → All (λ x. x < 256) xs
+all_bytes xs h = All-from_get_or (λ x. x < 256) xs 0 (λ i _. h i)
 
 pub part_on : (n m : ℕ) (s : Reader) (v : Bor (List ℕ)) (t : Reader) → s.bit ≡ 0 → n ≤ length (src s) - s.byte → m ≡ n → v.now ≡ take m (drop s.byte (src s)) → src t ≡ src s → t.byte ≡ s.byte + n → t.bit ≡ s.bit → Part n s v t
 unfolding met Cut
@@ -117,7 +107,7 @@ part_on n m s v t z h mn is same byte bit =
     let cut : bs ≡ bits (take n cs) ++ bits (drop n cs) =
     left_bits s ∙ ap (λ j. drop j (bits cs)) z ∙ ap bits (sym (take-append-drop n cs)) ∙ bits_append (take n cs) (drop n cs) in
     let len : length (take n cs) ≡ n = length-take-le n cs room in
-    let all = all_take n cs (all_drop s.byte (src s) (all_below (src s) s.fit)) in
+    let all = recursion_from_All _ _ (All-take (λ x. x < 256) n cs (All-drop (λ x. x < 256) s.byte (src s) (all_bytes (src s) s.fit))) in
     let x : bytes_of n bs ≡ v.now =
     (λ i. bytes_of (sym len i) (cut i)) ∙ bytes_bits (take n cs) (bits (drop n cs)) all ∙ sym is' in
     let d : drop (8 * n) bs ≡ drop (at t) (bits (src t)) = drop-drop (8 * n) (at s) (bits (src s)) ∙ (λ i. drop (sym moved i) (bits (sym same i))) in

@@ -1,6 +1,6 @@
 -- Entries one by one: what a loop over entries has passed after each, and at the end.
 -- Laws used: what one entry passes (`entered_by`).
-use Rattle.std.proofs.Common.{◌≡◌, ℕ, zero, suc, ◌+◌, ◌-◌, ◌*◌, ◌/◌, ◌%◌, ◌^◌, ◌<◌, ◌≤◌, max, cond, eqb, List, [], ◌∷◌, ◌++◌, length, get_or, take, drop, Ok, Err, Result, sym, refl, ap, ◌∙◌, add-one, arith, length-drop, length-take-le, get_or-drop, get_or-take, take-take, drop-drop, Bor}
+use Rattle.std.proofs.Common.{◌≡◌, ℕ, zero, suc, ◌+◌, ◌-◌, ◌*◌, ◌/◌, ◌%◌, ◌^◌, ◌<◌, ◌≤◌, max, List, [], ◌∷◌, ◌++◌, length, get_or, take, drop, Ok, Err, Result, sym, refl, ap, ◌∙◌, add-one, arith, length-drop, length-take-le, get_or-drop, get_or-take, take-take, drop-drop, Bor}
 use Rattle.std.proofs.lemmas.Slice.{between_is}
 use Rattle.grammar.specs.declared.fault.Fault.{Fault}
 use Rattle.grammar.specs.Grammar.{Grammar, Item, more, from_to}
@@ -9,14 +9,11 @@ use Rattle.grammar.proofs.Lawful.{more_none}
 use Rattle.reader.specs.declared.place.Reader.{Reader}
 use Rattle.reader.specs.Places.{met, src, at, pair, field_at, Read, Part, Found, Cut}
 use Rattle.wire.specs.declared.message.Entries.TheVariants.{Heard as HeardEntries}
-use Rattle.wire.specs.declared.message.Entries.{Entries}
-use Rattle.wire.specs.Messages.{Reply, reply_at, replies_in, heard_replies, replies_of}
+use Rattle.wire.specs.Messages.{Reply, reply_at, replies_in, heard_replies}
 use Rattle.wire.specs.Format.{reply_values, replies_values}
 use Rattle.reader.specs.declared.parts.Answer.{Answer}
-use Rattle.wire.specs.Fields.{entered, entries}
-use Rattle.reader.specs.Parts.{items, Entered, All, PassedBy, replied}
-use Rattle.boards.specs.Boards.{size}
-use Rattle.reader.proofs.Chains.{read}
+use Rattle.wire.specs.Fields.{most_change, entered, entries}
+use Rattle.reader.specs.Parts.{items, Entered, All}
 
 field_in : (r : Reader) (b q w : ℕ) → at r ≡ 8 * b + q → q < 8 → field_at (src r) (at r) w ≡ pair (src r) b / 2 ^ (16 - (q + w)) % 2 ^ w
 field_in r b q w e h =
@@ -24,7 +21,7 @@ field_in r b q w e h =
     let m : at r % 8 ≡ q = omega arith in
     λ i. pair (src r) (d i) / 2 ^ (16 - (m i + w)) % 2 ^ w
 
-pub entered_by : {s s1 s2 s3 t : Reader} {e c : ℕ} {v : Bor (List ℕ)} → s.bit ≡ 0 → Read 4 (from_to 0 8) s e s1 → Read 1 (from_to 0 0) s1 0 s2 → Read 3 (from_to 0 (cond (eqb e 0) 0 7)) s2 c s3 → Part 8 s3 v t → Entered (record { entry = record { earlier = e; change = c }; tag = v }) s t
+pub entered_by : {s s1 s2 s3 t : Reader} {e c : ℕ} {v : Bor (List ℕ)} → s.bit ≡ 0 → Read 4 (from_to 0 8) s e s1 → Read 1 (from_to 0 0) s1 0 s2 → Read 3 (from_to 0 (most_change e)) s2 c s3 → Part 8 s3 v t → Entered (record { entry = record { earlier = e; change = c }; tag = v }) s t
 unfolding Found Cut
 entered_by {s} {s1} {s2} {s3} {t} {e} {c} {v} z p0 p1 p2 p3 =
     let b = s.byte in
@@ -44,8 +41,8 @@ entered_by {s} {s1} {s2} {s3} {t} {e} {c} {v} z p0 p1 p2 p3 =
     let te : v.now ≡ take 8 (drop (b + 1) xs) = p3.found.0 ∙ (λ i. take 8 (drop (b3 i) (x3 i))) in
     record {
       on = λ k.
-          p0.on (λ e'. Grammar.field 1 (from_to 0 0) (λ _. Grammar.field 3 (from_to 0 (cond (eqb e' 0) 0 7)) (λ _. Grammar.part 8 (λ _. k e'))))
-          ∙ ap (more (Item.num 4 e ∷ [])) (p1.on (λ _. Grammar.field 3 (from_to 0 (cond (eqb e 0) 0 7)) (λ _. Grammar.part 8 (λ _. k e)))
+          p0.on (λ e'. Grammar.field 1 (from_to 0 0) (λ _. Grammar.field 3 (from_to 0 (most_change e')) (λ _. Grammar.part 8 (λ _. k e'))))
+          ∙ ap (more (Item.num 4 e ∷ [])) (p1.on (λ _. Grammar.field 3 (from_to 0 (most_change e)) (λ _. Grammar.part 8 (λ _. k e)))
           ∙ ap (more (Item.num 1 0 ∷ [])) (p2.on (λ _. Grammar.part 8 (λ _. k e)) ∙ ap (more (Item.num 3 c ∷ [])) (p3.on (λ _. k e))))
           ∙ flat (Item.num 4 e) (Item.num 1 0) (Item.num 3 c) (Item.raw v.now) (met (k e) t);
       found = λ i. record { entry = record { earlier = ee i; change = ce i }; tag = te i };
@@ -135,11 +132,3 @@ ended n i top m {s} {t} part e g d p =
     let count : n ≡ (length part.now + 8) / 9 = omega arith in
     let all : fields_in i xs ≡ replies_values (heard_replies part.now) = ap (λ j. fields_in j xs) e ∙ ap replies_values (sym (within n m xs (omega arith)) ∙ (λ j. replies_in (count j) (sym p j))) in
     record { on = λ b k. g.on k ∙ (λ j. more (all j) (met (entries (zero' j) top k) t)) }
-
--- a set before its entries
-pub behind_set : {b top : ℕ} {s t u : Reader} (n : ℕ) (es : Entries) → n ≡ size b → Read 8 (from_to 0 255) s b t → All n es top t u → PassedBy replied top (Item.num 8 b ∷ replies_values (replies_of b es)) s u
-behind_set {b} {top} {s} {t} {u} n es e p a = record {
-  on = λ k.
-      read _ p (λ m. entries (size m) 0 k) ((λ i. met (entries (sym e i) 0 k) t) ∙ a.on b k)
-      ∙ more_more (Item.num 8 b ∷ []) (replies_values (replies_of b es)) (met (k top) u);
-}

@@ -1,13 +1,10 @@
--- Values of fields: which lie outside, and fields with one value only.
+-- Values of fields: those with one value only, and fields that are written in another way.
 -- Laws used: none.
-use Rattle.std.proofs.Common.{◌≡◌, ℕ, ◌<◌, ◌≤◌, false, leb, subst, arith, ⊎_elim}
-use Rattle.std.proofs.lemmas.Bool.{and_left, and_right, and_parts, cases_lt, lt-leb, leb-true}
+use Rattle.std.proofs.Common.{◌≡◌, ℕ, leb, subst, arith}
+use Rattle.std.proofs.lemmas.Bool.{and_parts, leb-true}
 use Rattle.grammar.specs.Grammar.{from_to}
 use Rattle.reader.specs.declared.place.Reader.{Reader}
 use Rattle.reader.specs.Places.{Read}
-
-pub outside : (a b v : ℕ) → (a ≤ v → b < v) → from_to a b v ≡ false
-outside a b v h = ⊎_elim (λ l. and_left _ _ (lt-leb _ _ l)) (λ l. and_right _ _ (lt-leb _ _ (h l))) (cases_lt v a)
 
 -- a value that can be but one
 pub only_one : {w a v : ℕ} {s t : Reader} → Read w (from_to a a) s v t → Read w (from_to a a) s a t

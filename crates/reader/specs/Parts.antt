@@ -7,16 +7,16 @@ use Rattle.grammar.specs.Grammar.{Grammar, Item, more, from_to}
 use Rattle.wire.specs.declared.message.Content.{Content}
 use Rattle.wire.specs.declared.message.Entries.{Entries}
 use Rattle.wire.specs.declared.message.Replies.{Replies}
+use Rattle.wire.specs.declared.message.Spoken.{Spoken}
 use Rattle.wire.specs.declared.message.Tagged.{Tagged}
 use Rattle.wire.specs.declared.message.Tags.{Tags}
 use Rattle.wire.specs.Fields.{zeros, rank, change, graded, carried, lone_tag, own_tag, proof, entered, entries}
-use Rattle.wire.specs.Messages.{Reply, reply_at, tags_of, tags_by, replies_of, replies_by}
+use Rattle.wire.specs.Messages.{Reply, reply_at, tag_by, tags_of, tags_by, replies_of, replies_by}
 use Rattle.wire.specs.Format.{graded_values, content_values, set_values, reply_values, replies_values}
 use Rattle.reader.specs.declared.place.Reader.{Reader}
 use Rattle.reader.specs.declared.place.At.{At}
 use Rattle.reader.specs.declared.heads.Graded.{Graded}
 use Rattle.reader.specs.declared.parts.Answer.{Answer}
-use Rattle.reader.specs.declared.parts.Spoken.{Spoken}
 use Rattle.reader.specs.Places.{met, src}
 
 -- A part of the format was passed, with these items, whatever comes after it.
@@ -105,7 +105,7 @@ tagged_values q = set_values q.set.bits (tags_by q)
 
 -- The end of a message: a speaker and its tag.
 abbrev pub SpokenRead : Reader → Result Spoken Fault → Type 0
-SpokenRead s r = met (lone_tag Grammar.done) s ≡ items_of (λ x. set_values (only x.speaker) (tags_of (only x.speaker) x.tag)) r
+SpokenRead s r = met (lone_tag Grammar.done) s ≡ items_of (λ x. set_values (only x.speaker) (tag_by x)) r
 
 -- The end of a message: board b and its tag.
 abbrev pub OwnRead : ℕ → Reader → Result Tags Fault → Type 0

@@ -4,10 +4,11 @@ use Rattle.std.specs.Prelude.{◌≡◌, ℕ, List, [], ◌∷◌, Ok, Err, Resu
 use Rattle.grammar.specs.declared.fault.Fault.{Fault}
 use Rattle.grammar.specs.Bits.{bits}
 use Rattle.grammar.specs.Grammar.{Grammar, Item, outcome, more, from_to}
+use Rattle.wire.specs.declared.message.Body.{Body}
 use Rattle.wire.specs.declared.message.Message.{Message}
 use Rattle.wire.specs.Kinds.{kind_number}
 use Rattle.wire.specs.Fields.{view}
-use Rattle.wire.specs.Messages.{Msg, meaning}
+use Rattle.wire.specs.Messages.{Msg, meaning, said_in}
 use Rattle.wire.specs.Format.{message, values, body}
 use Rattle.reader.specs.declared.read.Opening.{Opening}
 use Rattle.reader.specs.Places.{met}
@@ -25,6 +26,6 @@ OpeningRead bs (Ok o) =
 OpeningRead bs (Err e) = outcome message (bits bs) 0 ≡ Err e
 
 -- What follows kind and view was read.
-abbrev pub BodyRead : Opening → Result Message Fault → Type 0
-BodyRead o (Ok m) = more (Item.num 4 (kind_number o.kind) ∷ Item.num 8 o.view ∷ []) (met (body (kind_number o.kind)) o.head.reader) ≡ Ok (values (meaning m))
+abbrev pub BodyRead : Opening → Result Body Fault → Type 0
+BodyRead o (Ok b) = more (Item.num 4 (kind_number o.kind) ∷ Item.num 8 o.view ∷ []) (met (body (kind_number o.kind)) o.head.reader) ≡ Ok (values (said_in o.view b))
 BodyRead o (Err e) = met (body (kind_number o.kind)) o.head.reader ≡ Err e

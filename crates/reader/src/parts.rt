@@ -111,6 +111,8 @@ impl<'a> Whole<'a> {
     }
 
     // A proof with its tags: no boards exactly if there is no earlier rank.
+    // The highest rank is a number and no `Option`: 0 is the entries' own word for none, the format's rule for a proof speaks of it,
+    // and a maximum over entries needs no case.
     pub(crate) fn proof(self, earlier: u8) -> Result<Tagged<'a>, Fault>
         ensures { ProofRead earlier self.entry.reader result }
     {

@@ -14,7 +14,12 @@ use wire::message::{Body, Message, Spoken, Tags};
 pub fn read<'a>(bytes: &'a [u8]) -> Result<Message<'a>, Fault>
     ensures { Reads bytes.now (told result) }
 {
-    Opening::read(bytes)?.message()
+    let opening = Opening::read(bytes)?;
+    let body = opening.body()?;
+    Ok(Message {
+        view: opening.view,
+        body,
+    })
 }
 
 // How every message begins: kind, view, and where the rest of its head is.
@@ -40,51 +45,51 @@ impl<'a> Opening<'a> {
         })
     }
 
-    // The message that begins so: what follows kind and view, up to its end.
-    fn message(self) -> Result<Message<'a>, Fault>
+    // What follows kind and view, up to the message's end.
+    fn body(self) -> Result<Body<'a>, Fault>
         ensures { BodyRead self.entry result }
     {
-        let Opening { kind, view, head } = self;
-        let body = match kind {
+        let head = self.head;
+        match self.kind {
             Kind::Notify => {
                 let (change, rest) = head.change()?;
                 let own = rest.spoken()?;
-                Body::Notify { change, own }
+                Ok(Body::Notify { change, own })
             }
             Kind::Suggest => {
                 let (change, rest) = head.change()?;
                 let by = rest.tagged()?;
-                Body::Suggest { change, by }
+                Ok(Body::Suggest { change, by })
             }
             Kind::Ack => {
                 let (Graded { rank, change }, rest) = head.graded()?;
                 let own = rest.spoken()?;
-                Body::Ack { rank, change, own }
+                Ok(Body::Ack { rank, change, own })
             }
             Kind::Proposal => {
                 let (Graded { rank, change }, rest) = head.graded()?;
                 let by = rest.tagged()?;
-                Body::Proposal { rank, change, by }
+                Ok(Body::Proposal { rank, change, by })
             }
             Kind::Ready => {
                 let (Graded { rank, change }, rest) = head.graded()?;
                 let own = rest.spoken()?;
-                Body::Ready { rank, change, own }
+                Ok(Body::Ready { rank, change, own })
             }
             Kind::Change => {
                 let (Graded { rank, change }, rest) = head.graded()?;
                 let by = rest.tagged()?;
-                Body::Change { rank, change, by }
+                Ok(Body::Change { rank, change, by })
             }
             Kind::Deputy => {
                 let (rank, rest) = head.rank()?;
                 let own = rest.spoken()?;
-                Body::Deputy { rank, own }
+                Ok(Body::Deputy { rank, own })
             }
             Kind::Query => {
                 let (rank, rest) = head.rank()?;
                 let by = rest.tagged()?;
-                Body::Query { rank, by }
+                Ok(Body::Query { rank, by })
             }
             Kind::Last => {
                 let (rank, rest) = head.rank()?;
@@ -92,39 +97,39 @@ impl<'a> Opening<'a> {
                 let (Answer { entry, tag }, rest) = rest.answer()?;
                 let proof = rest.proof(entry.earlier)?;
                 let tag = Tags::Heard(tag);
-                Body::Last {
+                let own = Spoken { speaker, tag };
+                Ok(Body::Last {
                     rank,
                     entry,
-                    own: Spoken { speaker, tag },
+                    own,
                     proof,
-                }
+                })
             }
             Kind::SuggestLast => {
                 let (rank, rest) = head.rank()?;
                 let ((replies, highest), rest) = rest.replies()?;
                 let proof = rest.proof(highest)?;
-                Body::SuggestLast {
+                Ok(Body::SuggestLast {
                     rank,
                     replies,
                     proof,
-                }
+                })
             }
             Kind::Init => {
                 let (content, rest) = head.carried()?;
                 let tag = rest.own(content.sender)?;
-                Body::Init { content, tag }
+                Ok(Body::Init { content, tag })
             }
             Kind::Echo => {
                 let (content, rest) = head.carried()?;
                 let own = rest.spoken()?;
-                Body::Echo { content, own }
+                Ok(Body::Echo { content, own })
             }
             Kind::Commit => {
                 let (content, rest) = head.carried()?;
                 let by = rest.tagged()?;
-                Body::Commit { content, by }
+                Ok(Body::Commit { content, by })
             }
-        };
-        Ok(Message { view, body })
+        }
     }
 }

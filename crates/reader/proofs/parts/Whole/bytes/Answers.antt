@@ -1,10 +1,10 @@
 -- The bytes from the place on are the part, if so many are left; else they are missing.
 -- The place moves by whole bytes.
-use Rattle.std.proofs.Common.{◌≤◌, ◌-◌, ◌<◌, length, refl, ap, ◌∙◌, take, arith}
+use Rattle.std.proofs.Common.{◌≤◌, ◌-◌, ◌<◌, length, refl, ap, ◌∙◌, take, arith, length-drop}
 use Rattle.std.proofs.lemmas.Grind.{common_steps}
+use Rattle.std.proofs.lemmas.List.{take_rest}
 use Rattle.reader.specs.Places.{src}
 use Rattle.reader.proofs.Bridge.{part_on, part_gone}
-use Rattle.reader.proofs.Masks.{from_is, from_long}
 use Rattle.reader.proofs.parts.Whole.bytes.Goals as goal
 
 pub returns-in_default : goal.returns-in_default
@@ -18,5 +18,6 @@ returns c =
     let s = c.args.self.reader in
     let n = c.args.n in
     let l = c.in-Some.ensures.lookup.0 in
-    let h : n ≤ length (src s) - s.byte = omega (arith, l.1, from_long s.byte (src s)) in
-    part_on n (n - 0) s _ _ c.args.self.at h (omega arith) (l.2 ∙ ap (take (n - 0)) (from_is s.byte (src s))) refl refl refl
+    let r = take_rest (src s) s.byte in
+    let h : n ≤ length (src s) - s.byte = omega (arith, l.1, ap length r, length-drop s.byte (src s)) in
+    part_on n (n - 0) s _ _ c.args.self.at h (omega arith) (l.2 ∙ ap (take (n - 0)) r) refl refl refl
