@@ -1,16 +1,14 @@
 -- The lowest of replies found from the last to the first.
 -- `onto` is the lowest of replies and of an entry found behind them; the folds over heard and over stored replies give it.
-use Rattle.std.proofs.Common.{◌≡◌, ℕ, zero, suc, ◌+◌, ◌-◌, ◌*◌, ◌/◌, ◌<◌, ◌≤◌, Bool, true, false, cond, List, [], ◌∷◌, ◌++◌, fold, length, get_or, sym, refl, ap, ◌∙◌, arith}
+use Rattle.std.proofs.Common.{◌≡◌, ℕ, zero, suc, ◌+◌, ◌-◌, ◌*◌, ◌/◌, ◌<◌, ◌≤◌, Bool, true, false, cond, List, [], ◌∷◌, ◌++◌, fold, reverse, append-nil, length, get_or, sym, refl, ap, ◌∙◌, arith}
 use Rattle.std.proofs.lemmas.Iterator.{YieldsList}
 use Rattle.std.proofs.lemmas.Iterator.Splits.{YieldsList-from_shown_while}
-use Rattle.std.proofs.lemmas.List.{get_or_append_left, get_or-append_right}
+use Rattle.std.proofs.lemmas.List.{get_or_append_left, get_or-append_right, reverse-append}
 use Rattle.std.specs.Iterator.Adapters.{rev_source, rev_steps}
 use Rattle.std.specs.Slice.Iter.{chunks_rest, chunks_size, chunks_steps_back}
-use Rattle.std.specs.List.{filter}
-use Rattle.std.specs.Range.{range_steps_back}
-use Rattle.std.specs.declared.ops.Range.{Range}
 use Rattle.std.specs.declared.iter.Rev.{Rev}
 use Rattle.std.specs.declared.slice.Chunks.{Chunks}
+use Rattle.boards.specs.Boards.{member, passing, boards}
 use Rattle.wire.specs.declared.message.Entry.{Entry}
 use Rattle.wire.specs.Messages.{Reply, listed, entry_in, replies_in, reply_at, heard_replies, none}
 use Rattle.wire.specs.Acts.{lower, lowest}
@@ -95,7 +93,7 @@ heard_yields s e =
     s e
 
 -- The last board moves into the entry if it passes, and is passed over if not.
-pub listed_moves : (P : ℕ → Bool) (f : ℕ → Reply) (found : Entry) (n : ℕ) → onto found (listed P f (suc n)) ≡ onto (cond (P n) (lower (f n).entry found) found) (listed P f n)
+listed_moves : (P : ℕ → Bool) (f : ℕ → Reply) (found : Entry) (n : ℕ) → onto found (listed P f (suc n)) ≡ onto (cond (P n) (lower (f n).entry found) found) (listed P f n)
 unfolding listed
 listed_moves P f found n = onto_append found (listed P f n) (cond (P n) (f n ∷ []) []) ∙ ap (λ e. onto e (listed P f n)) (by_test (P n))
   where
@@ -103,30 +101,16 @@ listed_moves P f found n = onto_append found (listed P f n) (cond (P n) (f n ∷
     by_test true = onto_one found (f n)
     by_test false = onto_none found
 
--- The numbers below n, the last first.
-unfoldable pub down : ℕ → List ℕ
-down zero = []
-down (suc n) = n ∷ down n
-
--- Numbers from 0 on, taken from the back.
-pub boards_yield : (s : Rev (Range ℕ)) → (rev_source s).start ≡ 0
-    → YieldsList (rev_steps (range_steps_back (λ a b. b - a) (λ a b. b ≡ a + 1))) (λ x. x) s (down (rev_source s).end)
-unfolding down
-boards_yield s z =
-    YieldsList-from_shown_while (rev_steps (range_steps_back (λ a b. b - a) (λ a b. b ≡ a + 1))) (λ x. x) (λ u. down (rev_source u).end) (λ u. (rev_source u).start ≡ 0)
-    (λ u t p h. let none_left : (rev_source u).end ≡ 0 = omega (arith, p, h.1.0) in ap (λ n. length (down n)) none_left)
-    (λ u x t p h. let last : (rev_source u).end ≡ suc (rev_source t).end = omega (arith, h.1.2) in (h.0 ∙ p, ap down last ∙ ap (λ y. y ∷ down (rev_source t).end) (sym h.1.1)))
-    s z
-
-fold_down : (P : ℕ → Bool) (f : ℕ → Reply) (found : Entry) (n : ℕ) → fold (λ e b. lower (f b).entry e) found (filter P (down n)) ≡ onto found (listed P f n)
-unfolding down listed
-fold_down P f found zero = sym (onto_none found)
-fold_down P f found (suc n) = by_test (P n) ∙ fold_down P f (cond (P n) (lower (f n).entry found) found) n ∙ sym (listed_moves P f found n)
+-- Found over the boards of a set from the last to the first, the lowest is that of their replies.
+fold_back : (P : ℕ → Bool) (f : ℕ → Reply) (found : Entry) (n : ℕ) → fold (λ e b. lower (f b).entry e) found (reverse (passing P n)) ≡ onto found (listed P f n)
+unfolding passing listed
+fold_back P f found zero = sym (onto_none found)
+fold_back P f found (suc n) = by_test (P n) ∙ fold_back P f (cond (P n) (lower (f n).entry found) found) n ∙ sym (listed_moves P f found n)
   where
-    by_test : (t : Bool) → fold (λ e b. lower (f b).entry e) found (cond t (n ∷ filter P (down n)) (filter P (down n))) ≡ fold (λ e b. lower (f b).entry e) (cond t (lower (f n).entry found) found) (filter P (down n))
-    by_test true = refl
-    by_test false = refl
+    by_test : (t : Bool) → fold (λ e b. lower (f b).entry e) found (reverse (passing P n ++ cond t (n ∷ []) [])) ≡ fold (λ e b. lower (f b).entry e) (cond t (lower (f n).entry found) found) (reverse (passing P n))
+    by_test true = ap (fold (λ e b. lower (f b).entry e) found) (reverse-append (passing P n) (n ∷ []))
+    by_test false = ap (λ xs. fold (λ e b. lower (f b).entry e) found (reverse xs)) (append-nil (passing P n))
 
--- The lowest of the replies of the boards that pass a test, found from the last to the first.
-pub lowest_listed : (P : ℕ → Bool) (f : ℕ → Reply) (n : ℕ) → fold (λ e b. lower (f b).entry e) none (filter P (down n)) ≡ lowest (listed P f n)
-lowest_listed P f n = fold_down P f none n ∙ lowest_onto (listed P f n)
+pub lowest_listed : (s : ℕ) (f : ℕ → Reply) → fold (λ e b. lower (f b).entry e) none (reverse (boards s)) ≡ lowest (listed (member s) f 8)
+unfolding boards
+lowest_listed s f = fold_back (member s) f none 8 ∙ lowest_onto (listed (member s) f 8)
