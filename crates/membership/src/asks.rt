@@ -22,10 +22,7 @@ fn trusted(row: &Row, suspects: Set) -> u8
     ensures { result ≡ trusted row.now.state suspects.bits }
 {
     let view = row.view();
-    let highest = (0..8)
-        .rev()
-        .find(|board| view.has(*board) && !suspects.has(*board));
-    highest.unwrap()
+    view.set().minus(suspects).boards().next_back().unwrap()
 }
 
 // Row, scheme and bytes stay three parameters, as in crate `voting`: of a struct of three `&mut` each contract would have to name

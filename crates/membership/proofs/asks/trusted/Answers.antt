@@ -1,24 +1,31 @@
--- A search from the last board down finds the highest that passes; there is one, for the row's own board passes.
--- From the law of searches.
-use Rattle.std.proofs.Common.{ℕ, Bool, not, ◌&&◌, sym, ap, ◌∙◌, arith, rules, tests}
+-- The last board of the view that is not suspect is the highest; there is one, for the row's own board is.
+-- From the law of walks from the back.
+use Rattle.std.proofs.Common.{ℕ, Bool, ◌≡◌, not, ◌&&◌, sym, ap, ◌∙◌}
 use Rattle.std.proofs.lemmas.Bool.{and_from, not_from_false}
 use Rattle.std.specs.Option.{unwrap_or}
 use Rattle.boards.specs.Boards.{member}
-use Rattle.row.specs.States.{highest}
-use Rattle.membership.proofs.Searches.{found_highest, some_found}
+use Rattle.row.specs.States.{group, highest}
+use Rattle.row.proofs.Chosen.{highest_same}
+use Rattle.membership.proofs.Searches.{last_highest, some_found}
 use Rattle.membership.proofs.asks.trusted.Goals as goal
+use Rattle.membership.proofs.asks.trusted.Goals.{After-next_back}
+
+trusts : ℕ → ℕ → ℕ → Bool
+trusts v s b = member v b && not (member s b)
+
+found : (c : After-next_back) → unwrap_or c.next_back.result 8 ≡ highest (trusts (group c.args.row.now.state) c.args.suspects.bits) 8
+unfolding trusts
+found c =
+    last_highest _ _ _ c.next_back.ensures.steps ∙ ap (λ s. highest (member s.bits) 8) c.boards.ensures
+    ∙ highest_same _ (trusts c.set.result.bits c.args.suspects.bits) 8 c.minus.ensures
+    ∙ ap (λ s. highest (trusts s.bits c.args.suspects.bits) 8) c.set.ensures ∙ ap (λ v. highest (trusts v c.args.suspects.bits) 8) c.view-view.ensures
 
 pub unwrap-requires : goal.unwrap-requires
+unfolding trusts
 unwrap-requires c =
     let w = c.args.row.now in
-    let P : ℕ → Bool = λ b. member c.view-view.result.set.bits b && not (member c.args.suspects.bits b) in
-    let own = and_from _ _ (ap (λ v. member v w.state.board) c.view-view.ensures ∙ c.requires.inside) (not_from_false _ c.requires.trusts) in
-    some_found P w.state.board c.find-highest.result w.seated own
-    (found_highest _ P (λ x q k. grind (arith, tests)) (λ x q k. (search rules, grind (arith, tests))) 8 c.rev.result _ c.find-highest.result c.rev.ensures.source c.find-highest.ensures.ran)
+    some_found (trusts (group w.state) c.args.suspects.bits) w.state.board c.next_back.result w.seated (and_from _ _ c.requires.inside (not_from_false _ c.requires.trusts)) (found c)
 
 pub returns : goal.returns
-returns c =
-    let P : ℕ → ℕ → Bool = λ v b. member v b && not (member c.args.suspects.bits b) in
-    sym (ap (λ o. unwrap_or o 8) c.unwrap.ensures)
-    ∙ found_highest _ (P c.view-view.result.set.bits) (λ x q k. grind (arith, tests)) (λ x q k. (search rules, grind (arith, tests))) 8 c.rev.result _ c.find-highest.result c.rev.ensures.source c.find-highest.ensures.ran
-    ∙ ap (λ x. highest (P x) 8) c.view-view.ensures
+unfolding trusts
+returns c = sym (ap (λ o. unwrap_or o 8) c.unwrap.ensures) ∙ found c
