@@ -6,6 +6,4 @@ use Rattle.writer.proofs.Lengths.{layout_parts}
 use Rattle.writer.proofs.put.Cursor.put_parts.Goals as goal
 
 pub returns : goal.returns
-returns c =
-    let room = c.requires.0 in
-    same_at (layout_parts c.args.layout.now) (more_at (omega arith) (more_at (omega arith) (more_at (omega arith) c.put_head.ensures c.put_middle.ensures) c.put.ensures) c.put_tags.ensures)
+returns c = same_at (layout_parts c.args.layout.now) (more_at (omega arith) (more_at (omega arith) (more_at (omega arith) c.put_head.ensures c.put_middle.ensures) c.put.ensures) c.put_tags.ensures)

@@ -16,7 +16,7 @@ put_tag-requires c =
     let b = c.loop-board.board in
     let p = place_below s b (sym c.has.ensures.is ∙ c.if-has.true) in
     let l = row_long s c.args.row.now b in
-    omega (arith, c.requires, c.loop-board.invariant.put.place, l, p, kept (omega (arith, c.requires, l, p)) c.loop-board.invariant.put)
+    omega (arith, l, p, kept (omega (arith, l, p)) c.loop-board.invariant.put)
 
 pub loop-board-preserved : goal.loop-board-preserved
 loop-board-preserved c =
