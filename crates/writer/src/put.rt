@@ -53,6 +53,7 @@ impl<'b> Cursor<'b> {
         requires { (self.old.at + length (head_bytes head) ≤ length self.old.out.now) × (head.width % 8 ≡ 0) }
         ensures { Puts self.old (head_bytes head) self.new }
     {
+        // A cast, as in `put_stored`: in a proof it computes, where `usize::from` is one more fact to cite.
         let bytes = head.bytes();
         self.put(&bytes[..(head.width / 8) as usize]);
     }

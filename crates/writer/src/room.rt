@@ -13,7 +13,7 @@ pub(crate) fn needed(layout: &Layout<'_>) -> usize
     ensures { result ≡ length (layout_bytes layout.now) }
 {
     let front = layout.front;
-    (front.head.width / 8) as usize + of_middle(front.middle) + 1 + of_tags(layout.by)
+    usize::from(front.head.width / 8) + of_middle(front.middle) + 1 + of_tags(layout.by)
 }
 
 // The bytes of what stands between the head and the last set.
@@ -24,7 +24,7 @@ fn of_middle(middle: Middle<'_>) -> usize
         Middle::Nothing => 0,
         Middle::Payload(bytes) => bytes.len(),
         Middle::Tag(by) => of_tags(by),
-        Middle::Replies(gathered) => 9 * gathered.replies.set.len() as usize,
+        Middle::Replies(gathered) => 9 * usize::from(gathered.replies.set.len()),
     }
 }
 
@@ -34,7 +34,7 @@ fn of_tags(by: Tagged<'_>) -> usize
 {
     match by.tags {
         Tags::Heard(bytes) => bytes.len(),
-        Tags::Stored(_) => 8 * by.set.len() as usize,
+        Tags::Stored(_) => 8 * usize::from(by.set.len()),
         Tags::Fresh(_) => 8,
     }
 }

@@ -6,7 +6,7 @@ use Rattle.writer.proofs.Puts.{same_at}
 use Rattle.writer.proofs.put.Cursor.put_head.Goals as goal
 
 pub put-requires : goal.put-requires
-put-requires c = omega (arith, ap length (head_is c.args.head _ c.requires.1 c.bytes-bytes.ensures), c.requires.0)
+put-requires c = omega (arith, ap length (head_is c.args.head _ c.requires.1 c.bytes-bytes.ensures))
 
 pub returns : goal.returns
 returns c = same_at (head_is c.args.head _ c.requires.1 c.bytes-bytes.ensures) c.put.ensures

@@ -21,7 +21,7 @@ put_reply-requires c =
     let r = c.in-Some.ensures in
     let p = place_below s b r.0 in
     let l = listed_bytes s c.args.gathered.replies.entries c.args.gathered.even b in
-    omega (arith, c.requires, c.loop-board.invariant.put.place, l, p, r.3, kept (omega (arith, c.requires, l, p)) c.loop-board.invariant.put)
+    omega (arith, l, p, r.3, kept (omega (arith, l, p)) c.loop-board.invariant.put)
 
 pub loop-board-preserved : goal.loop-board-preserved
 loop-board-preserved c =

@@ -1,10 +1,9 @@
 -- One tag more at a member, none at any other board.
 -- There is room for one tag for each.
-use Rattle.std.proofs.Common.{◌≡◌, sym, ◌∙◌, subst, arith}
+use Rattle.std.proofs.Common.{sym, ◌∙◌, arith}
 use Rattle.boards.proofs.Sets.{place_below}
-use Rattle.writer.specs.Writes.{Puts}
 use Rattle.writer.proofs.Puts.{kept, none_at, more_at, same_at, reached}
-use Rattle.writer.proofs.Rows.{row, row_in, row_out, row_none, row_long}
+use Rattle.writer.proofs.Rows.{row_in, row_out, row_none, row_long}
 use Rattle.writer.proofs.put.Cursor.put_stored.Goals as goal
 use Rattle.writer.proofs.put.Cursor.put_stored.Goals.{then-has, else-has}
 
@@ -17,7 +16,7 @@ put_tag-requires c =
     let b = c.loop-board.board in
     let p = place_below s b (sym c.has.ensures.is ∙ c.if-has.true) in
     let l = row_long s c.args.row.now b in
-    omega (arith, c.requires, c.loop-board.invariant.put.place, l, p, kept (omega (arith, c.requires, l, p)) c.loop-board.invariant.put)
+    omega (arith, l, p, kept (omega (arith, l, p)) c.loop-board.invariant.put)
 
 pub loop-board-preserved : goal.loop-board-preserved
 loop-board-preserved c =
@@ -28,8 +27,3 @@ loop-board-preserved c =
       | then-has w ↦ reached w.self-is (same_at (row_in s ts b (sym c.has.ensures.is ∙ w.if-has.true)) (more_at (omega arith) c.loop-board.invariant w.put_tag.ensures))
       | else-has w ↦ reached w.self-is (same_at (row_out s ts b (sym c.has.ensures.is ∙ w.if-has.false)) c.loop-board.invariant)
     ]
-
-pub returns : goal.returns
-returns c =
-    let end : c.loop-board.board ≡ 8 = omega arith in
-    subst (λ b. Puts c.args.self.now (row c.args.set.bits c.args.row.now b) c.loop-board.self) end c.loop-board.invariant
