@@ -1,13 +1,14 @@
 -- Where the items of lists come from: the boards of a set, and pieces of bytes.
 -- Which items they give, and that these are the ones a message means.
-use Rattle.std.proofs.Common.{◌≡◌, ℕ, zero, suc, ◌+◌, ◌-◌, ◌*◌, ◌/◌, ◌<◌, min, Bool, true, false, cond, List, [], ◌∷◌, ◌++◌, map, filter, length, take, drop, Some, None, Option, sym, refl, ap, ◌∙◌, subst, ⊎_elim, append-nil, add-one, arith, length-append, length-drop, get_or, add-zero}
+use Rattle.std.proofs.Common.{◌≡◌, ℕ, zero, suc, ◌+◌, ◌-◌, ◌*◌, ◌/◌, ◌<◌, min, Bool, true, false, cond, List, [], ◌∷◌, ◌++◌, map, filter, length, take, drop, sym, refl, ap, ◌∙◌, subst, ⊎_elim, append-nil, add-one, arith, length-append, length-drop, get_or, add-zero}
 use Rattle.std.proofs.lemmas.Bool.{cases_lt}
 use Rattle.std.proofs.lemmas.List.{get_or-take, get_or-drop, drop-take, map-append, take_all, drop_all, drop_at, drop-drop, take-append-le}
-use Rattle.std.proofs.lemmas.Iterator.{YieldsList}
+use Rattle.std.proofs.lemmas.Iterator.{YieldsList, YieldsList-from_range}
+use Rattle.std.proofs.lemmas.Iterator.Consumers.{YieldsList-from_filter}
 use Rattle.std.proofs.lemmas.Iterator.Splits.{YieldsList-from_shown_while}
 use Rattle.std.specs.Slice.Iter.{chunks_rest, chunks_size, chunks_steps}
 use Rattle.std.specs.declared.slice.Chunks.{Chunks}
-use Rattle.std.specs.List.{FoldsTo, range_with_len}
+use Rattle.std.specs.List.{range_with_len}
 use Rattle.std.specs.declared.ops.Range.{Range}
 use Rattle.std.specs.declared.iter.Filter.{Filter}
 use Rattle.std.specs.Iterator.Adapters.{filter_source, filter_callee, filter_steps}
@@ -86,6 +87,10 @@ module _ (size : ℕ) (count : ℕ → ℕ) (none : count 0 ≡ 0) (more : (n : 
       (λ s t h step. all_none (chunks_rest s) step.1.0)
       (λ s x t h step. (step.0 ∙ h, all_more (chunks_rest s) x.now (chunks_rest t) step.1.0 (step.1.1 ∙ ap (λ k. min k (length (chunks_rest s))) h) step.1.2))
       s e)
+
+-- the boards that pass a closure's test
+pub boards_run : {F : Type 0} {s : Filter (Range ℕ) F} (g : Mut F (Bor ℕ × Unit {0}) Bool) (p : ℕ → Bool) {f : F} → filter_source s ≡ record { start = 0; end = 8 } → filter_callee s ≡ f → ((x : ℕ) (b : Bool) (q : F) → CalledAt g f x b q → (q ≡ f) × (b ≡ p x)) → YieldsList (filter_steps nat_range_steps g) (λ b. b) s (filter p (range_with_len 0 8))
+boards_run g p is callee k = YieldsList-from_filter g p (YieldsList-from_range 0 8 8 is refl) callee k
 
 -- a board that is listed is one of eight
 pub below : (p : ℕ → Bool) (x k : ℕ) → k < length (filter p (range_with_len 0 8)) → x ≡ get_or (filter p (range_with_len 0 8)) k x → x < 8

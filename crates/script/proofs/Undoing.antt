@@ -9,7 +9,7 @@ use Rattle.script.specs.Texts.{hex, hex_digit}
 use Rattle.script.specs.Words.{lead, hex_sign}
 use Rattle.script.specs.Lines.{Line, Wrote, Adds}
 use Rattle.script.specs.Hex.{nibble, read_hex, Undone}
-use Rattle.script.proofs.Chains.{Has, has_none, has_more, adds_not}
+use Rattle.script.proofs.Chains.{Has, has_more, adds_not}
 
 -- a digit is read as the number that it was written for
 digit_back : (d : ℕ) → d < 16 → (hex_sign (hex_digit d) ≡ true) × (nibble (hex_digit d) ≡ d)
@@ -43,9 +43,6 @@ pub record ReadSo (a : Line) (ds rest : List ℕ) (b : Line) : Type 0 where
   pub text : List ℕ
   pub has : Has a text b
   pub left : read_hex ds ≡ text ++ read_hex rest
-
-pub read_none : (a : Line) (ds : List ℕ) → ReadSo a ds ds a
-read_none a ds = record { text = []; has = has_none a; left = refl }
 
 read_pair : (p rest : List ℕ) → length p ≡ 2 → read_hex (p ++ rest) ≡ (16 * nibble (get_or p 0 0) + nibble (get_or p 1 0)) ∷ read_hex rest
 unfolding read_hex

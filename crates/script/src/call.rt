@@ -1,6 +1,7 @@
 // A line of a script as a call, or what is wrong with it.
 // Which words are which call: specs/Calls.antt. Another call is another case here and there.
-ghost use Rattle.script.specs.Words.{body};
+ghost use Rattle.std.specs.Prelude.{Decides};
+ghost use Rattle.script.specs.Words.{Whole, body, hex_sign};
 ghost use Rattle.script.specs.Calls.{Named, OneWord, ArgumentRead, ArgumentKeys, Parses};
 
 use crate::answer::Reason;
@@ -42,6 +43,13 @@ fn one_word(text: &[u8]) -> Result<&[u8], Reason>
     }
 }
 
+// Whether all bytes are hexadecimal digits.
+fn is_hex(bytes: &[u8]) -> bool
+    ensures { Decides result (Whole hex_sign bytes.now) }
+{
+    bytes.iter().all(|b| b.is_ascii_hexdigit())
+}
+
 // The digits of a word: two for each byte, and none for the dash.
 fn digits(word: &[u8]) -> Result<&[u8], Reason>
     ensures { ArgumentRead word.now result }
@@ -49,7 +57,7 @@ fn digits(word: &[u8]) -> Result<&[u8], Reason>
     if word == b"-".as_slice() {
         return Ok(&word[..0]);
     }
-    if !word.iter().all(|b| b.is_ascii_hexdigit()) {
+    if !is_hex(word) {
         return Err(Reason::NotHexadecimal);
     }
     if word.len() % 2 == 1 {

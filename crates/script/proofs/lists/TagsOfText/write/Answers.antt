@@ -1,7 +1,7 @@
 -- Heard tags are in the pieces of nine, and stored tags have the text of the message's.
 -- The laws are in Sources and in Stored.
-use Rattle.std.proofs.Common.{◌≡◌, ◌-◌, ℕ, List, take, drop, length, map, ap, sym, ◌∙◌, arith, length-drop, rules}
-use Rattle.std.proofs.lemmas.List.{take_all}
+use Rattle.std.proofs.Common.{map, ap, sym, ◌∙◌, rules}
+use Rattle.std.proofs.lemmas.List.{take_rest}
 use Rattle.std.proofs.lemmas.Iterator.{YieldsList-from_map_by}
 use Rattle.std.proofs.lemmas.Iterator.Consumers.{YieldsList-at}
 use Rattle.wire.specs.Messages.{replies_of}
@@ -12,16 +12,13 @@ use Rattle.script.proofs.Sources.{replies_run, replies_are, reply_in}
 use Rattle.script.proofs.Stored.{stored_text, stored_replied_text}
 use Rattle.script.proofs.lists.TagsOfText.write.Goals as goal
 
-tail : (x r : List ℕ) → r ≡ take (length x - 1) (drop 1 x) → hex r ≡ hex (drop 1 x)
-tail x r e = ap hex (e ∙ take_all (length x - 1) (drop 1 x) (simp length-drop (omega arith)))
-
 pub returns-in-Heard : goal.returns-in-Heard
 returns-in-Heard c =
     let set = c.args.self.now.0.set.bits in
     let bs = c.in-Heard.bytes.now in
     written c.commas.ensures
     (YieldsList-from_map_by _ (λ r. hex r.0.now) (λ p. hex (reply_in p).tag) (YieldsList-at c.map.ensures.source (replies_run bs c.chunks.ensures.rest c.chunks.ensures.size)) c.map.ensures.closure
-    (λ x r q k. search (rules, tail x.now r.0.now)))
+    (λ x r q k. search (rules, take_rest x.now 1)))
     (replies_are (λ e. hex e.tag) bs ∙ ap (λ t. map (λ e. hex e.tag) (replies_of set t)) (sym c.in-Heard.is))
 
 pub returns-in-Stored : goal.returns-in-Stored
