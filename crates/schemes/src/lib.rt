@@ -11,7 +11,8 @@ pub mod laws;
 pub mod register;
 
 // Why a scheme does not sign.
-// The numbers are those of crate `codes`, said here again: codes carry the faults of messages, and a scheme knows of no message.
+// Its numbers are those of the table in crate `codes`, and said here too: codes carry the faults of messages, of which a scheme knows nothing,
+// so this crate stands without that one.
 #[derive(Clone, Copy, Debug, PartialEq, Eq)]
 pub enum SignRefusal {
     Board = 1,
@@ -29,7 +30,7 @@ impl From<SignRefusal> for u8 {
 }
 
 // A scheme is what its `good` and `spent` say; whoever uses one rests on this contract alone.
-// Board and words are two parameters, not one struct: goodness is a relation over them, and each clause and law speaks of each by itself.
+// Board and words stay two parameters, for a scheme is a relation over them: each law speaks of each by itself, and would take a struct apart.
 pub trait Scheme {
     ghost good: { Self → ℕ → List ℕ → ℕ → Bool };
 

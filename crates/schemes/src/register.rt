@@ -37,7 +37,8 @@ impl Entry {
         }
     }
 
-    // Whether the entry is that of the board and the words, which are compared as they are lent: an entry made to be compared would copy them.
+    // Whether the entry is that of the board and the words.
+    // No equality is derived: bytes past the words must not count, and an entry made to be compared would copy the words.
     fn is_of(&self, board: u8, words: &[u8]) -> bool
         ensures { result ≡ holds self.now board words.now }
     {
@@ -92,6 +93,7 @@ impl Scheme for Register<'_> {
         let at = self.used;
         self.rows[at] = Entry::of(board, words);
         self.used = at + 1;
+        // As in `check`: from a usize there is no `from`.
         Ok(at as u64)
     }
 }
