@@ -1,7 +1,6 @@
 -- A reason that comes before TAG and SPENT is the first one whatever the tags and the scheme are; where there is none, tags and scheme decide.
 -- Of a message that is taken no reason holds.
-use Rattle.std.proofs.Common.{◌≡◌, ℕ, Bool, true, false, cond, not, ◌&&◌, List, [], ◌∷◌, is_some, Some, None, Option, refl, ap}
-use Rattle.std.proofs.lemmas.Bool.{both_ways}
+use Rattle.std.proofs.Common.{◌≡◌, ℕ, Bool, true, false, cond, not, ◌&&◌, List, [], ◌∷◌, ◌++◌, Some, None, Option, refl}
 use Rattle.codes.specs.declared.Refusal.{Refusal}
 use Rattle.codes.specs.declared.Refusal.TheVariants.{Out, View, Member, Change, Turn, Late, Known, Size, Split, Tag, Spent}
 use Rattle.wire.specs.Messages.{Msg}
