@@ -5,6 +5,7 @@ use Rattle.std.proofs.lemmas.Bool.{and_from, and_left, and_parts, both_ways, cas
 use Rattle.boards.specs.Boards.{member}
 use Rattle.boards.proofs.Sets.{with_old, with_new}
 use Rattle.wire.specs.declared.message.Entry.{Entry}
+use Rattle.wire.specs.Acts.{undercuts}
 use Rattle.wire.specs.Messages.{none}
 use Rattle.row.specs.declared.state.Count.{Count}
 use Rattle.row.specs.declared.state.Leader.{Leader}
@@ -12,7 +13,7 @@ use Rattle.row.specs.declared.state.Slot.{Slot}
 use Rattle.row.specs.States.{insert, no_count, counted, count_at}
 use Rattle.boards.specs.Boards.{every}
 use Rattle.row.specs.Rows.{tells, proves, alike, allowed, nothing, tellers}
-use Rattle.row.specs.Effects.{told, undercuts}
+use Rattle.row.specs.Effects.{told}
 use Rattle.boards.proofs.Chosen.{every_true, every_at, every_false}
 use Rattle.row.proofs.Picked.{inserted}
 use Rattle.counting.specs.Counts.{Tellable}

@@ -10,8 +10,8 @@ use Rattle.views.specs.Shares.{quorum}
 use Rattle.views.proofs.Rule.{quorum_above}
 use Rattle.schemes.specs.declared.Scheme.{Ghosts}
 use Rattle.checks.specs.Checks.{genuine}
-use Rattle.wire.specs.declared.message.Message.{Message}
-use Rattle.wire.specs.Messages.{Msg, Reply, meaning}
+use Rattle.wire.specs.declared.message.Body.{Body}
+use Rattle.wire.specs.Messages.{Msg, Reply, said_in}
 use Rattle.wire.specs.Acts.{lowest, tag_of, tag_number}
 use Rattle.signed.specs.Signed.{SignerTagged}
 use Rattle.wire.proofs.Signs.{lowest_fits}
@@ -40,9 +40,9 @@ module _ {S : Type 0} (g : Ghosts S) where
   passes : (st : State) (s : S) (m : Msg) (room : ℕ) → Taken g st s m room → Passed st m room (genuine (g.good s) m) (g.spent s)
   passes st s m room t = passed st m room (genuine (g.good s) m) (g.spent s) t.unrefused
 
-  -- The same of a message by another name.
-  pub taken_as : (st : State) (s : S) (x y : Message) (room : ℕ) → x ≡ y → Taken g st s (meaning x) room → Taken g st s (meaning y) room
-  taken_as st s x y room e t = subst (λ z. Taken g st s (meaning z) room) e t
+  -- The same of a body by another name.
+  pub taken_as : (st : State) (s : S) (v : ℕ) (x y : Body) (room : ℕ) → x ≡ y → Taken g st s (said_in v x) room → Taken g st s (said_in v y) room
+  taken_as st s v x y room e t = subst (λ z. Taken g st s (said_in v z) room) e t
 
   pub takes_suggest : (st : State) (s : S) (v c a : ℕ) (t : List ℕ) (room : ℕ) → Taken g st s (Msg.suggest v c a t) room → c < 8
   takes_suggest st s v c a t room h = (held h.formed).3.3.3.1

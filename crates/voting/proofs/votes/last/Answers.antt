@@ -10,5 +10,5 @@ unwrap-sent-requires g c =
     let n = c.shown-proof.result in
     let byte : n.set.bits < 256 = search rules in
     goes_out g.S.Scheme _ _ _ _ _ _ _ c.speak.result _ _
-    (can_tell g.S.Scheme c.args.row.now _ _ c.args.rank n.set.bits c.kept_entry.result n.tags _ _ c.board.ensures.is c.latest.ensures c.kept_entry.ensures c.shown-proof.ensures.set byte c.requires.asked.0 c.requires.asked.1 c.requires.able)
+    (can_tell g.S.Scheme c.args.row.now _ _ c.args.rank n.set.bits c.kept_entry-entry.result n.tags _ _ c.board.ensures.is c.latest.ensures c.kept_entry-entry.ensures c.shown-proof.ensures.set byte c.requires.asked.0 c.requires.asked.1 c.requires.able)
     c.speak.ensures
