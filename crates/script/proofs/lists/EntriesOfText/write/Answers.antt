@@ -8,7 +8,7 @@ use Rattle.script.specs.Texts.{entry_text, entries_text}
 use Rattle.script.proofs.Chains.{wrote_as}
 use Rattle.script.proofs.Listings.{written}
 use Rattle.script.proofs.Sources.{replies_run, replies_are, reply_in}
-use Rattle.script.proofs.Stored.{stored_entries_text}
+use Rattle.script.proofs.Stored.{stored_list}
 use Rattle.script.proofs.lists.EntriesOfText.write.Goals as goal
 
 pub returns-in-Heard : goal.returns-in-Heard
@@ -23,4 +23,4 @@ pub returns-in-Stored : goal.returns-in-Stored
 returns-in-Stored c =
     let set = c.args.self.now.0.set.bits in
     let es = c.in-Stored.entries.now in
-    wrote_as (c.at_boards.ensures (λ b. entry_text (get_or es b none)) (λ b item k. search rules)) (stored_entries_text set es _ ∙ sym (ap (λ t. entries_text (replies_of set t)) c.in-Stored.is))
+    wrote_as (c.at_boards.ensures (λ b. entry_text (get_or es b none)) (λ b item k. search rules)) (stored_list (λ e. entry_text e.entry) set es _ ∙ sym (ap (λ t. entries_text (replies_of set t)) c.in-Stored.is))

@@ -9,7 +9,7 @@ use Rattle.script.specs.Texts.{hex, replied_text}
 use Rattle.script.proofs.Chains.{wrote_as}
 use Rattle.script.proofs.Listings.{written}
 use Rattle.script.proofs.Sources.{replies_run, replies_are, reply_in}
-use Rattle.script.proofs.Stored.{stored_text, stored_replied_text}
+use Rattle.script.proofs.Stored.{stored_text, stored_list}
 use Rattle.script.proofs.lists.TagsOfText.write.Goals as goal
 
 pub returns-in-Heard : goal.returns-in-Heard
@@ -25,4 +25,4 @@ pub returns-in-Stored : goal.returns-in-Stored
 returns-in-Stored c =
     let set = c.args.self.now.0.set.bits in
     let ts = c.in-Stored.tags.now in
-    wrote_as c.write.ensures (sym (stored_text set ts) ∙ stored_replied_text set _ ts ∙ sym (ap (λ t. replied_text (replies_of set t)) c.in-Stored.is))
+    wrote_as c.write.ensures (sym (stored_text set ts) ∙ stored_list (λ e. hex e.tag) set _ ts ∙ sym (ap (λ t. replied_text (replies_of set t)) c.in-Stored.is))
