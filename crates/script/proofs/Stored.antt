@@ -3,10 +3,10 @@
 use Rattle.std.proofs.Common.{◌≡◌, ℕ, zero, suc, ◌+◌, ◌*◌, ◌/◌, ◌≤◌, Bool, true, false, cond, List, [], ◌∷◌, ◌++◌, map, length, get_or, take, drop, sym, refl, ap, ◌∙◌, subst, append_assoc, append-nil, add-one, arith, length-append, length-drop}
 use Rattle.std.proofs.lemmas.List.{map-append, take_all, take-append-le, drop-append-le, drop_at}
 use Rattle.wire.specs.declared.message.Entry.{Entry}
-use Rattle.wire.specs.Messages.{listed, joined, tag_bytes, stored_tags, stored_replies, none}
+use Rattle.wire.specs.Messages.{Reply, listed, joined, tag_bytes, stored_tags, stored_replies, none}
 use Rattle.wire.specs.Acts.{tag_at}
 use Rattle.boards.specs.Boards.{member}
-use Rattle.script.specs.Texts.{hex, tags_in, tags_text, commas, entry_text, entries_text, replied_text}
+use Rattle.script.specs.Texts.{hex, tags_in, tags_text, listing, commas}
 
 pub map_listed : {X Y : Type 0} (g : X → Y) (P : ℕ → Bool) (f : ℕ → X) (n : ℕ) → listed P (λ b. g (f b)) n ≡ map g (listed P f n)
 unfolding listed
@@ -74,9 +74,11 @@ stored_text s ts =
     let count : length all ≡ (length (joined all) + 7) / 8 = omega (arith, even.long) in
     ap commas (map_listed hex (member s) f 8 ∙ sym even.same ∙ ap (λ n. tags_in n (joined all)) count)
 
--- the replies of a set's boards, stored by board number
-pub stored_entries_text : (s : ℕ) (es : List Entry) (ts : List ℕ) → commas (listed (member s) (λ b. entry_text (get_or es b none)) 8) ≡ entries_text (stored_replies s es ts)
-stored_entries_text s es ts = ap commas (map_listed (λ e. entry_text e.entry) (member s) (λ b. record { entry = get_or es b none; tag = tag_bytes (get_or ts b 0) }) 8)
+-- what is said of the replies of a set's boards, stored by board number
+pub stored_list : (g : Reply → List ℕ) (s : ℕ) (es : List Entry) (ts : List ℕ) → commas (listed (member s) (λ b. g (record { entry = get_or es b none; tag = tag_bytes (get_or ts b 0) })) 8) ≡ commas (map g (stored_replies s es ts))
+stored_list g s es ts = ap commas (map_listed g (member s) (λ b. record { entry = get_or es b none; tag = tag_bytes (get_or ts b 0) }) 8)
 
-pub stored_replied_text : (s : ℕ) (es : List Entry) (ts : List ℕ) → commas (listed (member s) (λ b. hex (tag_bytes (get_or ts b 0))) 8) ≡ replied_text (stored_replies s es ts)
-stored_replied_text s es ts = ap commas (map_listed (λ e. hex e.tag) (member s) (λ b. record { entry = get_or es b none; tag = tag_bytes (get_or ts b 0) }) 8)
+-- one tag that was just signed
+pub fresh_text : (t : ℕ) → hex (tag_bytes t) ≡ tags_text (tag_bytes t)
+unfolding tags_in commas listing
+fresh_text t = refl

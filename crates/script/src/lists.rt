@@ -80,24 +80,17 @@ impl Text for Entry {
     }
 }
 
-// Tags that were heard, eight bytes each.
-fn heard_tags(line: &mut Vec<u8>, bytes: &[u8]) -> Result<(), AllocError>
-    ensures { Wrote line.old (tags_text bytes.now) result line.new }
-{
-    commas(line, bytes.chunks(8).map(|tag| Hex(tag)))
-}
-
-// The tags of a set's boards.
+// The tags of a set's boards: heard, eight bytes each, stored by board number, or one that was just signed.
 impl Text for Tagged<'_> {
     ghost text = { λ by. tags_text (tags_by by) };
 
     fn write(&self, line: &mut Vec<u8>) -> Result<(), AllocError> {
         match self.tags {
-            Tags::Heard(bytes) => heard_tags(line, bytes),
+            Tags::Heard(bytes) => commas(line, bytes.chunks(8).map(|tag| Hex(tag))),
             Tags::Stored(tags) => {
                 at_boards(line, self.set, |board| Tag(tags[usize::from(board)]))
             }
-            Tags::Fresh(tag) => heard_tags(line, &tag.to_be_bytes()),
+            Tags::Fresh(tag) => Tag(tag).write(line),
         }
     }
 }
