@@ -1,10 +1,11 @@
 -- The lowest earlier rank of replies: no reply has a lower one, and where there is one some reply has it.
 -- A rank of 0 is none and never counts.
-use Rattle.std.proofs.Common.{◌≡◌, ℕ, zero, suc, ◌<◌, ◌≤◌, cond, eqb, ltb, ◌⊎◌, List, [], ◌∷◌, length, get_or, sym, refl, ◌∙◌, subst, inl, inr, ⊎_elim, arith}
+use Rattle.std.proofs.Common.{◌≡◌, ℕ, zero, suc, ◌<◌, ◌≤◌, eqb, ltb, ◌⊎◌, List, [], ◌∷◌, length, get_or, sym, refl, ◌∙◌, subst, inl, inr, ⊎_elim, arith}
 use Rattle.std.proofs.lemmas.Bool.{cond_both, eqb-true, eqb-false, ltb-true, ltb-false, cases_lt}
 use Rattle.wire.specs.declared.message.Entry.{Entry}
 use Rattle.wire.specs.Messages.{Reply}
-use Rattle.wire.specs.Acts.{lower, lowest, no_reply}
+use Rattle.wire.specs.Acts.{undercuts, lower, lowest, no_reply}
+use Rattle.wire.proofs.Signs.{undercut}
 
 -- An entry tells of no rank, or of one that is not below l's.
 abbrev pub Under : Entry → Entry → Type 0
@@ -15,25 +16,20 @@ under_itself e = ⊎_elim (λ some. inr (omega arith, omega arith)) (λ no. inl 
 
 lower_under : (a b : Entry) → Under (lower a b) a × Under (lower a b) b
 lower_under a b =
-    let P : Entry → Type 0 = λ z. Under z a × Under z b in
     let x = a.earlier in
     let y = b.earlier in
-    cond_both (eqb y 0) a (cond (eqb x 0) b (cond (ltb y x) b a)) P (λ e. (under_itself a, inl (eqb-true y 0 e)))
-    (λ e.
+    undercut (eqb y 0) (eqb x 0) (ltb y x) a b (λ z. Under z a × Under z b) (λ e. (under_itself a, inl (eqb-true y 0 e))) (λ e f. (inl (eqb-true x 0 f), under_itself b))
+    (λ e f l.
     let ne = eqb-false y 0 e in
-    let some : 1 ≤ y = omega arith in
-    cond_both (eqb x 0) b (cond (ltb y x) b a) P (λ f. (inl (eqb-true x 0 f), inr (some, omega arith)))
-    (λ f.
+    let lt = ltb-true y x l in
+    (inr (omega arith, omega arith), under_itself b))
+    (λ e f l.
     let nf = eqb-false x 0 f in
-    cond_both (ltb y x) b a P
-    (λ l. let lt = ltb-true y x l in (inr (some, omega arith), inr (some, omega arith)))
-    (λ l. let le = ltb-false y x l in (inr (omega arith, omega arith), inr (omega arith, omega arith)))))
+    let le = ltb-false y x l in
+    (under_itself a, inr (omega arith, omega arith)))
 
 lower_one : (a b : Entry) → (lower a b ≡ a) ⊎ (lower a b ≡ b)
-lower_one a b =
-    let P : Entry → Type 0 = λ z. (z ≡ a) ⊎ (z ≡ b) in
-    cond_both (eqb b.earlier 0) a _ P (λ _. inl refl)
-    (λ _. cond_both (eqb a.earlier 0) b _ P (λ _. inr refl) (λ _. cond_both (ltb b.earlier a.earlier) b a P (λ _. inr refl) (λ _. inl refl)))
+lower_one a b = cond_both (undercuts b a) b a (λ z. (z ≡ a) ⊎ (z ≡ b)) (λ _. inr refl) (λ _. inl refl)
 
 through : (l k e : Entry) → Under l k → Under k e → Under l e
 through l k e p q = ⊎_elim inl (λ t. ⊎_elim (λ no. absurd (omega (arith, t.0))) (λ u. inr (u.0, omega (arith, u.1, t.1))) p) q

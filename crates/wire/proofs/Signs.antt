@@ -104,19 +104,20 @@ none_allowed = record { rank_fits = omega arith; rank_allowed = refl; change_fit
 not_zero : (n : ℕ) → eqb n 0 ≡ false → 0 < n
 not_zero n e = let ne = eqb-false n 0 e in omega arith
 
--- What holds of a choice whose test is `undercuts`, test by test.
-undercut : {A : Type 0} (c d e : Bool) (a b : A) (P : A → Type 0) → (c ≡ true → P a) → (c ≡ false → P b) → (d ≡ false → P a) → P (cond (not c && (d || e)) b a)
-undercut true d e a b P p q r = p refl
-undercut false true e a b P p q r = q refl
-undercut false false true a b P p q r = q refl
-undercut false false false a b P p q r = r refl
+-- What holds of a choice whose test is `undercuts`, test by test: b has no rank, a has none, b's is lower.
+pub undercut : {A : Type 0} (c d e : Bool) (a b : A) (P : A → Type 0) → (c ≡ true → P a) → (c ≡ false → d ≡ true → P b) → (c ≡ false → d ≡ false → e ≡ true → P b) → (c ≡ false → d ≡ false → e ≡ false → P a)
+    → P (cond (not c && (d || e)) b a)
+undercut true d e a b P p q r s = p refl
+undercut false true e a b P p q r s = q refl refl
+undercut false false true a b P p q r s = r refl refl refl
+undercut false false false a b P p q r s = s refl refl refl
 
 -- The lower of two entries is the first only if the second has no earlier rank or the first has one, and the second only if it has one.
 lower_by : (P : Entry → Type 0) (a b : Entry) → ((b.earlier ≡ 0) ⊎ (0 < a.earlier) → P a) → (0 < b.earlier → P b) → P (lower a b)
 lower_by P a b p q =
     let x = a.earlier in
     let y = b.earlier in
-    undercut (eqb y 0) (eqb x 0) (ltb y x) a b P (λ e. p (inl (eqb-true y 0 e))) (λ e. q (not_zero y e)) (λ f. p (inr (not_zero x f)))
+    undercut (eqb y 0) (eqb x 0) (ltb y x) a b P (λ e. p (inl (eqb-true y 0 e))) (λ e f. q (not_zero y e)) (λ e f l. q (not_zero y e)) (λ e f l. p (inr (not_zero x f)))
 
 lowest_allowed : (es : List Reply) → AllByRecursion (λ e. EntryAllowed e.entry) es → EntryAllowed (lowest es)
 unfolding lowest

@@ -1,7 +1,7 @@
 -- One part put after another, from a place on.
--- Two puts are one put of both parts.
+-- Two puts are one put of both parts; a loop that puts parts goes through the whole with them.
 use Rattle.std.proofs.Common.{◌≡◌, ℕ, ◌+◌, ◌≤◌, List, [], ◌++◌, length, take, drop, sym, refl, ap, ◌∙◌, subst, add-zero, arith}
-use Rattle.std.proofs.lemmas.List.{append_assoc, take_at, drop_at, drop-drop, length-append, length-drop, length-take-le, take-append-drop}
+use Rattle.std.proofs.lemmas.List.{append_assoc, append-nil, take_at, drop_at, drop-drop, length-append, length-drop, length-take-le, take-append-drop}
 use Rattle.writer.specs.Writes.{Put, Puts}
 use Rattle.writer.specs.declared.put.Cursor.{Cursor}
 
@@ -44,3 +44,24 @@ same_at {a} {b} e p = subst (λ l. Puts a l b) e p
 -- A cursor under another name.
 pub reached : {a b d : Cursor} {xs : List ℕ} → d ≡ b → Puts a xs b → Puts a xs d
 reached {a} {xs = xs} e p = subst (Puts a xs) (sym e) p
+
+-- What is put from cursor a to b, joined with what is still to put, is the whole.
+pub record Through (a : Cursor) (whole rest : List ℕ) (b : Cursor) : Type 0 where
+  pub part : List ℕ
+  pub puts : Puts a part b
+  pub joins : part ++ rest ≡ whole
+
+pub starts : {a : Cursor} {whole rest : List ℕ} → rest ≡ whole → Through a whole rest a
+starts {a} e = record { part = []; puts = none_at a; joins = e }
+
+-- What is still to put has room where the whole has.
+pub room : {a b : Cursor} {whole rest : List ℕ} → a.at + length whole ≤ length a.out.now → Through a whole rest b → b.at + length rest ≤ length b.out.now
+room {rest = rest} h t =
+    let long = ap length (sym t.joins) ∙ length-append t.part rest in
+    omega (arith, h, long, t.puts.put.place, kept (omega (arith, h, long)) t.puts.put)
+
+pub turn : {a b d : Cursor} {whole rest next left : List ℕ} → rest ≡ next ++ left → a.at ≤ length a.out.now → Through a whole rest b → Puts b next d → Through a whole left d
+turn {next = next} {left} e h t p = record { part = t.part ++ next; puts = more_at h t.puts p; joins = append_assoc t.part next left ∙ ap (λ l. t.part ++ l) (sym e) ∙ t.joins }
+
+pub ends : {a b : Cursor} {whole rest : List ℕ} → rest ≡ [] → Through a whole rest b → Puts a whole b
+ends e t = same_at (sym (append-nil t.part) ∙ ap (λ l. t.part ++ l) (sym e) ∙ t.joins) t.puts

@@ -1,57 +1,113 @@
 -- Tags and replies put board by board.
--- One more at a member, none at any other board.
-use Rattle.std.proofs.Common.{◌≡◌, ℕ, ◌+◌, ◌*◌, true, false, cond, List, [], ◌∷◌, ◌++◌, length, get_or, sym, refl, ap, ◌∙◌, add-one}
-use Rattle.std.proofs.lemmas.List.{append_assoc, append-nil}
-use Rattle.boards.specs.Boards.{member, place}
-use Rattle.wire.specs.declared.message.Entries.{Entries}
-use Rattle.wire.specs.Messages.{Reply, listed, joined, tag_bytes}
-use Rattle.layout.specs.Measures.{reply_of}
+-- Those of the boards that a walk has left, and what its next board takes off them.
+use Rattle.std.proofs.Common.{◌≡◌, ℕ, zero, suc, Bool, true, false, cond, map, List, [], ◌∷◌, ◌++◌, get_or, Some, None, Option, sym, refl, ap, ◌∙◌, subst}
+use Rattle.std.proofs.lemmas.List.{map-append}
+use Rattle.std.proofs.lemmas.Bool.{true≢false}
+use Rattle.std.proofs.ByRecursion.{All-append}
+use Rattle.std.specs.Fn.{Called}
+use Rattle.std.specs.Iterator.Adapters.{filter_map_steps}
+use Rattle.std.specs.List.{AllByRecursion}
+use Rattle.std.specs.Option.{is_some}
+use Rattle.std.specs.declared.iter.FilterMap.{FilterMap}
+use denote.Param.Members.{Mut}
+use Rattle.boards.specs.Boards.{member, passing, boards}
+use Rattle.boards.specs.declared.Boards.{Boards}
+use Rattle.boards.proofs.Yields.{fronts}
+use Rattle.wire.specs.declared.message.Entry.{Entry}
+use Rattle.wire.specs.declared.message.Tags.{Tags}
+use Rattle.wire.specs.declared.message.Replies.{Replies}
+use Rattle.wire.specs.Messages.{listed, joined, entry_byte, tag_bytes, tags_of, stored_tags, replies_by}
+use Rattle.layout.specs.Measures.{Replied, reply_of}
 use Rattle.layout.specs.Layouts.{replies_bytes}
-use Rattle.wire.specs.Messages.{entry_byte}
-use Rattle.layout.proofs.Stored.{joined_more, joined_long}
-use Rattle.layout.proofs.Replies.{listed_in, listed_out}
+use Rattle.layout.specs.declared.plan.Gathered.{Gathered}
+use Rattle.layout.proofs.Replies.{absent, replies_listed}
 
--- the bytes of the stored tags of the boards below b
-abbrev pub row : ℕ → List ℕ → ℕ → List ℕ
-row s ts b = joined (listed (member s) (λ k. tag_bytes (get_or ts k 0)) b)
+-- What f says of the boards of a set is what is listed of it.
+map_listed : {X : Type 0} (P : ℕ → Bool) (f : ℕ → X) (n : ℕ) → map f (passing P n) ≡ listed P f n
+unfolding passing listed
+map_listed P f zero = refl
+map_listed P f (suc n) = map-append f (passing P n) (cond (P n) (n ∷ []) []) ∙ (λ i. map_listed P f n i ++ by_test (P n) i)
+  where
+    by_test : (t : Bool) → map f (cond t (n ∷ []) []) ≡ cond t (f n ∷ []) []
+    by_test true = refl
+    by_test false = refl
 
-pub row_in : (s : ℕ) (ts : List ℕ) (b : ℕ) → member s b ≡ true → row s ts b ++ tag_bytes (get_or ts b 0) ≡ row s ts (b + 1)
-row_in s ts b m = let f : ℕ → List ℕ = λ k. tag_bytes (get_or ts k 0) in
-    ap (λ x. row s ts b ++ cond x (f b) []) (sym m) ∙ sym (joined_more (member s) f b) ∙ ap (row s ts) (sym (add-one b))
+map_boards : {X : Type 0} (s : ℕ) (f : ℕ → X) → map f (boards s) ≡ listed (member s) f 8
+unfolding boards
+map_boards s f = map_listed (member s) f 8
 
-pub row_out : (s : ℕ) (ts : List ℕ) (b : ℕ) → member s b ≡ false → row s ts b ≡ row s ts (b + 1)
-row_out s ts b m = let f : ℕ → List ℕ = λ k. tag_bytes (get_or ts k 0) in
-    sym (append-nil (row s ts b)) ∙ ap (λ x. row s ts b ++ cond x (f b) []) (sym m) ∙ sym (joined_more (member s) f b) ∙ ap (row s ts) (sym (add-one b))
+-- The bytes of the stored tags of boards.
+abbrev pub tags_at : List ℕ → List ℕ → List ℕ
+tags_at ts bs = joined (map (λ b. tag_bytes (get_or ts b 0)) bs)
 
-pub row_none : (s : ℕ) (ts : List ℕ) → [] ≡ row s ts 0
-unfolding listed joined
-row_none s ts = refl
+pub tags_none : (ts : List ℕ) {bs : List ℕ} → bs ≡ [] → tags_at ts bs ≡ []
+unfolding joined
+tags_none ts e = ap (tags_at ts) e
 
-pub row_long : (s : ℕ) (ts : List ℕ) (b : ℕ) → length (row s ts b) ≡ 8 * place s b
-unfolding place
-row_long s ts b = joined_long (member s) (λ k. tag_bytes (get_or ts k 0)) 8 (λ k. refl) b
+pub tags_first : (ts : List ℕ) {bs left : List ℕ} {i b : ℕ} → bs ≡ b ∷ left → i ≡ b → tags_at ts bs ≡ tag_bytes (get_or ts i 0) ++ tags_at ts left
+unfolding joined
+tags_first ts {left = left} e n = ap (tags_at ts) e ∙ ap (λ k. tag_bytes (get_or ts k 0) ++ tags_at ts left) (sym n)
 
--- the bytes of the replies of the boards below b
-abbrev pub answers : ℕ → Entries → ℕ → List ℕ
-answers s es b = replies_bytes (listed (member s) (reply_of s es) b)
+pub tags_boards : (s : ℕ) (ts : List ℕ) → tags_at ts (boards s) ≡ stored_tags s ts
+tags_boards s ts = ap joined (map_boards s _)
 
-bytes_append : (xs ys : List Reply) → replies_bytes (xs ++ ys) ≡ replies_bytes xs ++ replies_bytes ys
+-- The bytes of boards' replies.
+abbrev pub answers_at : Replies → List ℕ → List ℕ
+answers_at q bs = replies_bytes (map (reply_of q.set.bits q.entries) bs)
+
+answers_none : (q : Replies) {bs : List ℕ} → bs ≡ [] → answers_at q bs ≡ []
 unfolding replies_bytes
-bytes_append [] ys = refl
-bytes_append (x ∷ xs) ys = ap (λ l. entry_byte x.entry ∷ l) (ap (λ l. x.tag ++ l) (bytes_append xs ys) ∙ sym (append_assoc x.tag (replies_bytes xs) (replies_bytes ys)))
+answers_none q e = ap (answers_at q) e
 
-one_reply : (x : Reply) → replies_bytes (x ∷ []) ≡ entry_byte x.entry ∷ x.tag
+answers_first : (q : Replies) {bs left : List ℕ} {b : ℕ} (y : Entry × Tags) → bs ≡ b ∷ left → Replied q.set.bits q.entries b (Some y)
+    → answers_at q bs ≡ (entry_byte y.0 ∷ tags_of q.set.bits y.1) ++ answers_at q left
 unfolding replies_bytes
-one_reply x = ap (λ l. entry_byte x.entry ∷ l) (append-nil x.tag)
+answers_first q {left = left} y e r = ap (answers_at q) e ∙ (λ i. entry_byte (sym r.1 i) ∷ (sym r.2 i ++ answers_at q left))
 
-pub answers_in : (s : ℕ) (es : Entries) (b : ℕ) → member s b ≡ true → answers s es b ++ (entry_byte (reply_of s es b).entry ∷ (reply_of s es b).tag) ≡ answers s es (b + 1)
-answers_in s es b m =
-    let l = listed (member s) (reply_of s es) b in
-    ap (λ x. answers s es b ++ x) (sym (one_reply (reply_of s es b))) ∙ sym (bytes_append l (reply_of s es b ∷ [])) ∙ ap replies_bytes (sym (listed_in (member s) (reply_of s es) b m)) ∙ ap (answers s es) (sym (add-one b))
+pub answers_boards : (x : Gathered) → answers_at x.replies (boards x.replies.set.bits) ≡ replies_bytes (replies_by x.replies)
+answers_boards x =
+    let q = x.replies in
+    ap replies_bytes (map_boards q.set.bits (reply_of q.set.bits q.entries) ∙ sym (replies_listed q.set.bits q.entries x.even))
 
-pub answers_out : (s : ℕ) (es : Entries) (b : ℕ) → member s b ≡ false → answers s es b ≡ answers s es (b + 1)
-answers_out s es b m = ap replies_bytes (sym (listed_out (member s) (reply_of s es) b m)) ∙ ap (answers s es) (sym (add-one b))
+-- Boards of set s.
+abbrev pub Of : ℕ → List ℕ → Type 0
+Of s bs = AllByRecursion (λ b. member s b ≡ true) bs
 
-pub answers_none : (s : ℕ) (es : Entries) → [] ≡ answers s es 0
-unfolding listed replies_bytes
-answers_none s es = refl
+all_passing : (P : ℕ → Bool) (n : ℕ) → AllByRecursion (λ b. P b ≡ true) (passing P n)
+unfolding passing
+all_passing P zero = tt
+all_passing P (suc n) = All-append _ (passing P n) (cond (P n) (n ∷ []) []) (all_passing P n) (by_test (P n) refl)
+  where
+    by_test : (t : Bool) → P n ≡ t → AllByRecursion (λ b. P b ≡ true) (cond t (n ∷ []) [])
+    by_test true e = (e, tt)
+    by_test false e = tt
+
+pub all_boards : (s : ℕ) → Of s (boards s)
+unfolding boards
+all_boards s = all_passing (member s) 8
+
+-- A filter that asks for the reply of each board left in a walk over the set passes over none.
+module _ {F : Type 0} (x : Gathered) {g : Mut F (ℕ × Unit {0}) (Option (Entry × Tags))} {f : F}
+    (asks : (b : ℕ) (r : Option (Entry × Tags)) (q : F) → Called g f (b, tt) r q → (q ≡ f) × Replied x.replies.set.bits x.replies.entries b r) where
+  abbrev left : FilterMap Boards F → List ℕ
+  left w = boards w.iter.left.bits
+
+  passed : (w : Boards) (b : ℕ) (t : Boards) (p q : F) → p ≡ f → Of x.replies.set.bits (boards w.left.bits) → fronts w (Some b) t → Called g p (b, tt) None q → ⊥
+  passed w b t p q a o h c =
+      let m = (subst (Of x.replies.set.bits) h.1 o).0 in
+      let none = (asks b None q (subst (λ z. Called g z (b, tt) None q) a c)).1 in
+      true≢false (sym m ∙ absent x.replies.set.bits x.replies.entries b x.even none)
+
+  pub next_reply : (w t : FilterMap Boards F) (y : Entry × Tags) → w.f ≡ f → Of x.replies.set.bits (left w) → filter_map_steps fronts g w (Some y) t
+      → (answers_at x.replies (left w) ≡ (entry_byte y.0 ∷ tags_of x.replies.set.bits y.1) ++ answers_at x.replies (left t)) × Of x.replies.set.bits (left t) × (t.f ≡ f)
+  next_reply w t y a o ([], None, h, d, i, m) = absurd (true≢false (ap is_some m.0))
+  next_reply w t y a o ([], Some b, h, d, i, m) =
+      let here : left w ≡ b ∷ left t = ap (λ z. boards z.left.bits) d.1 ∙ d.2.1 in
+      let c = asks b (Some y) t.f (subst (λ z. Called g z (b, tt) (Some y) t.f) (sym i ∙ a) m.0) in
+      (answers_first x.replies y here c.1, (subst (Of x.replies.set.bits) here o).1, c.0)
+  next_reply w t y a o (b ∷ bs, r, h, d, i, m) = absurd (passed w.iter b d.1.0 w.f i.0 a o d.1.1 i.1)
+
+  pub no_reply : (w t : FilterMap Boards F) → w.f ≡ f → Of x.replies.set.bits (left w) → filter_map_steps fronts g w None t → answers_at x.replies (left w) ≡ []
+  no_reply w t a o ([], None, h, d, i, m) = answers_none x.replies (ap (λ z. boards z.left.bits) d.1 ∙ d.2.0)
+  no_reply w t a o ([], Some b, h, d, i, m) = absurd (true≢false (sym m.1))
+  no_reply w t a o (b ∷ bs, r, h, d, i, m) = absurd (passed w.iter b d.1.0 w.f i.0 a o d.1.1 i.1)

@@ -88,11 +88,8 @@ impl<'b> Cursor<'b> {
         requires { self.old.at + 8 * size set.bits ≤ length self.old.out.now }
         ensures { Puts self.old (stored_tags set.bits row.now) self.new }
     {
-        // An `if` and no `filter`: what is written so far is told by board number, and behind a filter it would be told by rank.
-        for board in 0..8 {
-            if set.has(board) {
-                self.put_tag(row[board as usize]);
-            }
+        for board in set.boards() {
+            self.put_tag(row[usize::from(board)]);
         }
     }
 
@@ -110,15 +107,13 @@ impl<'b> Cursor<'b> {
         ensures { Puts self.old (replies_bytes (replies_by gathered.entry.replies)) self.new }
     {
         let replies = gathered.replies;
-        // An `if let` and no `filter_map`, for the same reason.
-        for board in 0..8 {
-            if let Some((entry, tags)) = reply(replies, board) {
-                let own = Tagged {
-                    set: replies.set,
-                    tags,
-                };
-                self.put_reply(entry, own);
-            }
+        let boards = replies.set.boards();
+        for (entry, tags) in boards.filter_map(|board| reply(replies, board)) {
+            let own = Tagged {
+                set: replies.set,
+                tags,
+            };
+            self.put_reply(entry, own);
         }
     }
 

@@ -28,4 +28,4 @@ unwrap-requires c =
 
 pub returns : goal.returns
 unfolding trusts
-returns c = sym (ap (λ o. unwrap_or o 8) c.unwrap.ensures) ∙ found c
+returns c = sym (ap (λ o. unwrap_or o 8) c.unwrap.ensures) ∙ found c.before

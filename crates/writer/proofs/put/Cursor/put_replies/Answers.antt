@@ -1,43 +1,35 @@
--- One reply more at a member, none at any other board.
+-- Each turn puts the reply of the first of the boards that are left.
 -- There is room for nine bytes for each.
-use Rattle.std.proofs.Common.{◌≡◌, ◌∷◌, ◌++◌, sym, ap, ◌∙◌, arith}
-use Rattle.boards.proofs.Sets.{place_below}
-use Rattle.layout.specs.Layouts.{replies_bytes}
-use Rattle.wire.specs.Messages.{entry_byte}
-use Rattle.layout.proofs.Replies.{absent, replies_listed}
-use Rattle.layout.proofs.Fronts.{listed_bytes}
-use Rattle.writer.proofs.Puts.{kept, none_at, more_at, same_at, reached}
-use Rattle.writer.proofs.Rows.{answers, answers_in, answers_out, answers_none}
+use Rattle.std.proofs.Common.{length, ap, sym, ◌∙◌, arith, rules, subst, refl, length-append}
+use Rattle.boards.specs.Boards.{boards}
+use Rattle.wire.specs.Messages.{tags_of}
+use Rattle.layout.proofs.Fronts.{replies_even}
+use Rattle.writer.proofs.Puts.{starts, room, turn, ends}
+use Rattle.writer.proofs.Rows.{answers_at, answers_boards, all_boards, Of, next_reply, no_reply}
 use Rattle.writer.proofs.put.Cursor.put_replies.Goals as goal
-use Rattle.writer.proofs.put.Cursor.put_replies.Goals.{in-Some, in_default}
 
-pub loop-board-init : goal.loop-board-init
-loop-board-init c = same_at (answers_none c.args.gathered.replies.set.bits c.args.gathered.replies.entries) (none_at _)
+pub loop-entry-init : goal.loop-entry-init
+loop-entry-init c =
+    let x = c.args.gathered in
+    let of = ap (λ w. w.iter.left) c.into_iter-entry-iterator.ensures.into_iter_gives ∙ ap (λ w. w.left) c.filter_map-entry-items.ensures.source ∙ c.boards-boards.ensures in
+    (starts (ap (λ s. answers_at x.replies (boards s.bits)) of ∙ answers_boards x), subst (λ s. Of x.replies.set.bits (boards s.bits)) (sym of) (all_boards _), refl)
 
 pub put_reply-requires : goal.put_reply-requires
 put_reply-requires c =
-    let s = c.args.gathered.replies.set.bits in
-    let b = c.loop-board.board in
-    let r = c.in-Some.ensures in
-    let p = place_below s b r.0 in
-    let l = listed_bytes s c.args.gathered.replies.entries c.args.gathered.even b in
-    omega (arith, l, p, r.3, kept (omega (arith, l, p)) c.loop-board.invariant.put)
+    let x = c.args.gathered in
+    let q = x.replies in
+    let i = c.loop-entry.invariant in
+    let n = next_reply x (λ b r f h. search (rules)) _ _ _ i.2 i.1 c.in-Some.ensures.steps in
+    let whole = room (omega (arith, c.requires, replies_even q.set.bits q.entries x.even)) i.0 in
+    omega (arith, whole, ap length n.0, length-append (tags_of q.set.bits c.in-Some.tags) (answers_at q (boards c.next.new.self.iter.left.bits)))
 
-pub loop-board-preserved : goal.loop-board-preserved
-loop-board-preserved c =
-    let s = c.args.gathered.replies.set.bits in
-    let es = c.args.gathered.replies.entries in
-    let b = c.loop-board.board in
-    elim c.match-reply.branch [
-      | in-Some w ↦
-          let r = w.in-Some.ensures in
-          reached w.self-is (same_at (ap (λ x. answers s es b ++ x) (λ i. entry_byte (r.1 i) ∷ r.2 i) ∙ answers_in s es b r.0) (more_at (omega arith) c.loop-board.invariant w.put_reply.ensures))
-      | in_default w ↦ reached w.self-is (same_at (answers_out s es b (absent s es b c.args.gathered.even w.in_default.ensures)) c.loop-board.invariant)
-    ]
+pub loop-entry-preserved : goal.loop-entry-preserved
+loop-entry-preserved c =
+    let i = c.loop-entry.invariant in
+    let n = next_reply c.args.gathered (λ b r f h. search (rules)) _ _ _ i.2 i.1 c.in-Some.ensures.steps in
+    (turn n.0 (omega (arith, c.requires)) i.0 c.put_reply.ensures, n.1, n.2)
 
 pub returns : goal.returns
 returns c =
-    let s = c.args.gathered.replies.set.bits in
-    let es = c.args.gathered.replies.entries in
-    let end : c.loop-board.board ≡ 8 = omega arith in
-    same_at (ap (answers s es) end ∙ ap replies_bytes (sym (replies_listed s es c.args.gathered.even))) c.loop-board.invariant
+    let i = c.loop-entry.invariant in
+    ends (no_reply c.args.gathered (λ b r f h. search (rules)) _ _ i.2 i.1 c.in-None.ensures.steps) i.0

@@ -1,29 +1,24 @@
--- One tag more at a member, none at any other board.
+-- Each turn puts the tag of the first of the boards that are left.
 -- There is room for one tag for each.
-use Rattle.std.proofs.Common.{sym, ◌∙◌, arith}
-use Rattle.boards.proofs.Sets.{place_below}
-use Rattle.writer.proofs.Puts.{kept, none_at, more_at, same_at, reached}
-use Rattle.writer.proofs.Rows.{row_in, row_out, row_none, row_long}
+use Rattle.std.proofs.Common.{length, ap, ◌∙◌, arith}
+use Rattle.boards.specs.Boards.{boards}
+use Rattle.layout.proofs.Stored.{stored_long}
+use Rattle.writer.proofs.Puts.{starts, room, turn, ends}
+use Rattle.writer.proofs.Rows.{tags_at, tags_none, tags_first, tags_boards}
 use Rattle.writer.proofs.put.Cursor.put_stored.Goals as goal
-use Rattle.writer.proofs.put.Cursor.put_stored.Goals.{then-has, else-has}
 
 pub loop-board-init : goal.loop-board-init
-loop-board-init c = same_at (row_none c.args.set.bits c.args.row.now) (none_at _)
+loop-board-init c =
+    let of = ap (λ w. w.left) c.into_iter-board-iterator.ensures.into_iter_gives ∙ c.boards-board-items.ensures in
+    starts (ap (λ s. tags_at c.args.row.now (boards s.bits)) of ∙ tags_boards c.args.set.bits c.args.row.now)
 
 pub put_tag-requires : goal.put_tag-requires
 put_tag-requires c =
-    let s = c.args.set.bits in
-    let b = c.loop-board.board in
-    let p = place_below s b (sym c.has.ensures.is ∙ c.if-has.true) in
-    let l = row_long s c.args.row.now b in
-    omega (arith, l, p, kept (omega (arith, l, p)) c.loop-board.invariant.put)
+    let left = room (omega (arith, c.requires, stored_long c.args.set.bits c.args.row.now)) c.loop-board.invariant in
+    omega (arith, left, ap length (tags_first c.args.row.now c.in-Some.ensures.steps.1 c.from.ensures))
 
 pub loop-board-preserved : goal.loop-board-preserved
-loop-board-preserved c =
-    let s = c.args.set.bits in
-    let ts = c.args.row.now in
-    let b = c.loop-board.board in
-    elim c.if-has.branch [
-      | then-has w ↦ reached w.self-is (same_at (row_in s ts b (sym c.has.ensures.is ∙ w.if-has.true)) (more_at (omega arith) c.loop-board.invariant w.put_tag.ensures))
-      | else-has w ↦ reached w.self-is (same_at (row_out s ts b (sym c.has.ensures.is ∙ w.if-has.false)) c.loop-board.invariant)
-    ]
+loop-board-preserved c = turn (tags_first c.args.row.now c.in-Some.ensures.steps.1 c.from.ensures) (omega (arith, c.requires)) c.loop-board.invariant c.put_tag.ensures
+
+pub returns : goal.returns
+returns c = ends (tags_none c.args.row.now c.in-None.ensures.steps.0) c.loop-board.invariant
