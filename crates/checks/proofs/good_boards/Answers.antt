@@ -14,7 +14,8 @@ returns-clause-sound g c =
     let m = meaning c.args.m.now in
     let of = ap (λ w. w.left.bits) c.filter.ensures.source ∙ ap (λ s. s.bits) c.boards.ensures ∙ c.boards_of.ensures in
     let ran = c.fold.ensures.ran in
-    gathered part good m (λ x b q h. search (rules)) (λ a x b q h. search (rules)) _ _ _ _ _ _ c.filter.ensures.closure refl (subst (λ s. Found part good m 0 (boards s)) (sym of) (found_none part good m)) ran.2 ran.3
+    gathered part good m (λ x b q h. search (rules)) (λ a x b q h. search (rules)) _ _ _ _ _ _ c.filter.ensures.closure refl
+    (subst (λ s. Found part good m 0 (boards s)) (sym of) (found_none part good m)) ran.2 ran.3
 
 pub returns-clause-formed : goal.returns-clause-formed
 returns-clause-formed g c = sound_is_good c.args.part (g.S.Scheme.good c.args.scheme.now) (meaning c.args.m.now) c.fold.result.bits (returns-clause-sound g c)
