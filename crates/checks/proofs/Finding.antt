@@ -1,10 +1,21 @@
--- The sound boards of a part found one board at a time: those below n are decided, and none from n on is found yet.
+-- The sound boards of a part found one board at a time: each is found, or is one that is still to be asked.
 -- A tag is decided by what is had of it: its statement's words, its number, and what the scheme says of both.
-use Rattle.std.proofs.Common.{◌≡◌, ℕ, ◌+◌, ◌^◌, ◌<◌, ◌≤◌, Bool, true, false, length, Decides, sym, ap, ◌∙◌, subst, ⊎_elim, arith}
-use Rattle.std.proofs.lemmas.Bool.{both_ways, cases_eq, cases_lt}
-use Rattle.boards.specs.Boards.{member, With}
-use Rattle.boards.proofs.Members.{member_above, member_below, member_none}
+use Rattle.std.proofs.Common.{◌≡◌, ℕ, zero, suc, ◌^◌, ◌<◌, Bool, true, false, cond, ◌||◌, eqb, List, [], ◌∷◌, length, Bor, Decides, sym, refl, ap, ◌∙◌, subst, ⊎_elim, arith}
+use Rattle.std.proofs.Math.Bool.{or-false}
+use Rattle.std.proofs.lemmas.Bool.{both_ways, cases_eq, eq-eqb, ne_eqb, or_left, or_right, true≢false}
+use Rattle.std.proofs.lemmas.List.Folds.{list_any-append}
+use Rattle.std.specs.Fn.{Called, CalledAt}
+use Rattle.std.specs.Iterator.{Drains, Yields}
+use Rattle.std.specs.Iterator.Adapters.{filter_steps}
+use Rattle.std.specs.List.{FoldsTo, list_any}
+use Rattle.std.specs.declared.iter.Filter.{Filter}
+use denote.Param.Members.{Mut}
+use Rattle.boards.specs.Boards.{member, passing, boards, With}
+use Rattle.boards.specs.declared.Boards.{Boards}
+use Rattle.boards.specs.declared.Set.{Set}
+use Rattle.boards.proofs.Members.{member_below, member_none}
 use Rattle.boards.proofs.Sets.{with_new, with_old}
+use Rattle.boards.proofs.Yields.{fronts}
 use Rattle.schemes.specs.Meaning.{Good}
 use Rattle.wire.specs.Messages.{Msg, tag_bytes}
 use Rattle.wire.specs.Acts.{Act, Allowed, words, tag_number}
@@ -22,45 +33,69 @@ decided part good m b a x r i e et small d =
       (λ s. d.1 (subst Allowed (sym e) s.may_sign, same ∙ s.is_good)),
     )
 
--- Of the boards below n just those whose tags in a part are sound are in set r.
-abbrev Decided : Part → Good → Msg → ℕ → ℕ → Type 0
-Decided part good m n r = (b : ℕ) → b < n → Decides (member r b) (Sound part good m b)
+-- Whether board b is one of a list.
+abbrev among : ℕ → List ℕ → Bool
+among b bs = list_any (λ k. eqb b k) bs
 
--- Of the boards below n just the sound ones are found, and none from n on.
-abbrev pub Found : Part → Good → Msg → ℕ → ℕ → Type 0
-Found part good m n r = Decided part good m n r × ((k : ℕ) → n ≤ k → member r k ≡ false)
+-- The boards of set r are sound, and a sound board is one of them or is still to be asked.
+abbrev pub Found : Part → Good → Msg → ℕ → List ℕ → Type 0
+Found part good m r left = (b : ℕ) → (member r b ≡ true → Sound part good m b) × (Sound part good m b → (member r b || among b left) ≡ true)
 
-pub found_none : (part : Part) (good : Good) (m : Msg) → Found part good m 0 0
-found_none part good m = ((λ k h. absurd (omega arith)), (λ k h. member_none k))
+passing_among : (P : ℕ → Bool) (n b : ℕ) → b < n → P b ≡ true → among b (passing P n) ≡ true
+unfolding passing
+passing_among P zero b h e = absurd (omega arith)
+passing_among P (suc n) b h e =
+    list_any-append _ (passing P n) (cond (P n) (n ∷ []) [])
+    ∙ ⊎_elim
+    (λ same. or_right (among b (passing P n)) _ (ap (λ t. among b (cond t (n ∷ []) [])) (ap P (sym same) ∙ e) ∙ or_left _ _ (eq-eqb b n same)))
+    (λ ne. or_left _ _ (passing_among P n b (omega arith) e)) (cases_eq b n)
 
--- A sound board is taken up.
-pub found_more : (part : Part) (good : Good) (m : Msg) (n r r2 : ℕ) → n < 8 → Found part good m n r → Sound part good m n → With r n r2 → Found part good m (n + 1) r2
-found_more part good m n r r2 h f s w = (
-  (λ k l. ⊎_elim
-      (λ same. ((λ _. subst (λ j. Sound part good m j) (sym same) s), (λ _. ap (member r2) same ∙ with_new r n r2 h w)))
-      (λ ne. let e = with_old r n r2 w k (omega arith) ne in let d = f.0 k (omega arith) in ((λ y. d.0 (e ∙ y)), (λ y. sym e ∙ d.1 y)))
-      (cases_eq k n)),
-  (λ k l. ⊎_elim
-      (λ small. sym (with_old r n r2 w k small (λ same. omega arith)) ∙ f.1 k (omega arith))
-      (λ large. member_above r2 k large)
-      (cases_lt k 8)),
+pub found_none : (part : Part) (good : Good) (m : Msg) → Found part good m 0 (boards (boards_in part m))
+unfolding boards
+found_none part good m b = (
+  (λ e. absurd (both_ways _ (member_none b) e)),
+  (λ s. or_right (member 0 b) _ (passing_among (member (boards_in part m)) 8 b (member_below _ b s.belongs) s.belongs)),
 )
 
--- A board that is not sound is passed over.
-pub found_same : (part : Part) (good : Good) (m : Msg) (n r : ℕ) → Found part good m n r → (Sound part good m n → ⊥) → Found part good m (n + 1) r
-found_same part good m n r f bad = (
-  (λ k l. ⊎_elim
-      (λ same. (
-        (λ y. absurd (both_ways (member r k) (f.1 k (omega arith)) y)),
-        (λ s. absurd (bad (subst (λ j. Sound part good m j) same s))),
+module _ (part : Part) (good : Good) (m : Msg) where
+  -- A sound board is taken up.
+  found_more : (r r2 x : ℕ) (left : List ℕ) → x < 8 → Found part good m r (x ∷ left) → Sound part good m x → With r x r2 → Found part good m r2 left
+  found_more r r2 x left h f s w b =
+      ⊎_elim
+      (λ same. ((λ _. subst (Sound part good m) (sym same) s), (λ _. or_left _ _ (ap (member r2) same ∙ with_new r x r2 h w))))
+      (λ ne. (
+        (λ y. (f b).0 (with_old r x r2 w b (member_below r2 b y) ne ∙ y)),
+        (λ q. (λ i. sym (with_old r x r2 w b (member_below _ b q.belongs) ne) i || (sym (ne_eqb b x ne) i || among b left)) ∙ (f b).1 q),
       ))
-      (λ ne. f.0 k (omega arith))
-      (cases_eq k n)),
-  (λ k l. f.1 k (omega arith)),
-)
+      (cases_eq b x)
 
--- Where the eight boards are decided all are.
-pub found_all : (part : Part) (good : Good) (m : Msg) (r : ℕ) → Decided part good m 8 r → SoundBoards part good m r
-found_all part good m r f k = ⊎_elim (f k)
-    (λ l. ((λ y. absurd (both_ways (member r k) (member_above r k l) y)), (λ s. absurd (omega (arith, l, member_below _ k s.belongs)))))
-    (cases_lt k 8)
+  -- A board that is not sound is passed over.
+  found_same : (r x : ℕ) (left : List ℕ) → Found part good m r (x ∷ left) → (Sound part good m x → ⊥) → Found part good m r left
+  found_same r x left f bad b =
+      ((f b).0, (λ q. (λ i. member r b || (sym (ne_eqb b x (λ same. bad (subst (Sound part good m) same q))) i || among b left)) ∙ (f b).1 q))
+
+  -- Where none is left to ask, all are found.
+  found_all : (r : ℕ) → Found part good m r [] → SoundBoards part good m r
+  found_all r f b = ((f b).0, (λ q. sym (or-false (member r b)) ∙ (f b).1 q))
+
+  -- The boards of a walk that a filter asks whether they are sound, and that a fold takes up.
+  module _ {F G : Type 0} {test : Mut F (Bor ℕ × Unit {0}) Bool} {put : Mut G (Set × (ℕ × Unit {0})) Set} {f : F} {h : G}
+      (asks : (x : ℕ) (b : Bool) (q : F) → CalledAt test f x b q → (q ≡ f) × Decides b (Sound part good m x))
+      (puts : (a : Set) (x : ℕ) (b : Set) (q : G) → Called put h (a, (x, tt)) b q → (q ≡ h) × With a.bits x b.bits) where
+    passed : (r : ℕ) (w u : Boards) (xs : List ℕ) (p q : F) → p ≡ f → Found part good m r (boards w.left.bits) → Yields fronts w xs u
+        → FoldsTo (λ p x q. CalledAt test p x false q) p xs q → (q ≡ f) × Found part good m r (boards u.left.bits)
+    passed r w u [] p q e o y c = (sym c ∙ e, subst (λ z. Found part good m r (boards z.left.bits)) y o)
+    passed r w u (x ∷ xs) p q e o (j, s, y) (k, c, cs) =
+        let n = asks x false k (subst (λ z. CalledAt test z x false k) e c) in
+        passed r j u xs k q n.0 (found_same r x (boards j.left.bits) (subst (Found part good m r) s.1 o) (λ t. true≢false (sym (n.1.1 t)))) y cs
+
+    pub gathered : (w : Filter Boards F) (xs : List ℕ) (k : G) (a r : Set) (q : G) → w.p ≡ f → k ≡ h → Found part good m a.bits (boards w.iter.left.bits)
+        → Drains (filter_steps fronts test) w xs → FoldsTo {P = G × Set} (λ a x b. Called put a.0 (a.1, (x, tt)) b.1 b.0) (k, a) xs (q, r) → SoundBoards part good m r.bits
+    gathered w [] k a r q e i o (u, (v, y, (zs, l, (t, yt, st), cs, z))) d =
+        let n = passed a.bits v.iter t zs v.p l (ap (λ g. g.p) (sym y) ∙ e) (subst (λ g. Found part good m a.bits (boards g.iter.left.bits)) y o) yt cs in
+        subst (λ g. SoundBoards part good m g.bits) (ap (λ g. g.1) d) (found_all a.bits (subst (Found part good m a.bits) st.0 n.1))
+    gathered w (x ∷ xs) k a r q e i o (u, (v, (j, (zs, l, (t, yt, st), cs, c), y), z)) ((k2, a2), b, d) =
+        let n = passed a.bits w.iter t zs w.p l e o yt cs in
+        let s = asks x true j.p (subst (λ g. CalledAt test g x true j.p) n.0 c) in
+        let p = puts a x a2 k2 (subst (λ g. Called put g (a, (x, tt)) a2 k2) i b) in
+        gathered j xs k2 a2 r q s.0 p.0 (found_more a.bits a2.bits x (boards j.iter.left.bits) st.0 (subst (Found part good m a.bits) st.1 n.1) (s.1.0 refl) p.1) (u, (v, y, z)) d

@@ -80,14 +80,10 @@ pub fn good_boards<S: Scheme>(scheme: &S, m: &Message<'_>, part: Part) -> Set
     ensures sound { SoundBoards part (S.good scheme.now) (meaning m.now) result.bits }
     ensures formed { GoodBoards part (S.good scheme.now) (meaning m.now) result.bits }
 {
-    // A `filter` with a `fold` was tried and stays open: its lemmas ask for a test that is computed, and `is_sound` decides a fact.
-    let mut found = Set::EMPTY;
-    for board in 0..8 {
-        if is_sound(scheme, m, part, board) {
-            found = found.with(board);
-        }
-    }
-    found
+    boards_of(m, part)
+        .boards()
+        .filter(|board| is_sound(scheme, m, part, *board))
+        .fold(Set::EMPTY, Set::with)
 }
 
 // Whether every board of a part has a good tag in it.

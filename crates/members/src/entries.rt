@@ -47,6 +47,7 @@ fn some_told<F: Fn(Entry) -> bool>(m: &Message<'_>, passes: F) -> bool
     requires { F.IsAlwaysCallable passes }
     ensures { (test : Entry → Bool) → ((e : Entry) (r : Bool) → F.post passes e r → r ≡ test e) → result ≡ some_told test (meaning m.now) }
 {
+    // Over all eight: `entry_by` leaves out who did not sign. A walk over `signers` was tried and proves, but asks that twice, by a longer proof.
     (0..8).any(|board| entry_by(m, board).is_some_and(|entry| passes(entry)))
 }
 

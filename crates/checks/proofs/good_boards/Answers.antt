@@ -1,34 +1,21 @@
--- One turn takes up a sound board and passes over any other; in a formed message the sound boards are the good ones.
--- That the eight boards are then decided is closed by the search.
-use Rattle.std.proofs.Common.{◌+◌, ◌<◌, sym, subst, arith, rules}
-use Rattle.std.proofs.lemmas.Bool.{both_ways}
-use Rattle.boards.specs.declared.Set.{Set}
+-- The chain takes up each sound board of the part and passes over any other; in a formed message the sound boards are the good ones.
+-- From the law of such chains.
+use Rattle.std.proofs.Common.{ap, ◌∙◌, sym, subst, refl, rules}
+use Rattle.boards.specs.Boards.{boards}
 use Rattle.wire.specs.Messages.{meaning}
-use Rattle.checks.proofs.Finding.{Found, found_none, found_more, found_same, found_all}
+use Rattle.checks.proofs.Finding.{Found, found_none, gathered}
 use Rattle.checks.proofs.Sounds.{sound_is_good}
 use Rattle.checks.proofs.good_boards.Goals as goal
-use Rattle.checks.proofs.good_boards.Goals.{then-is_sound, else-is_sound}
 
-pub loop-board-init : goal.loop-board-init
-loop-board-init g c = found_none _ _ _
-
-pub loop-board-preserved : goal.loop-board-preserved
-loop-board-preserved g c =
+pub returns-clause-sound : goal.returns-clause-sound
+returns-clause-sound g c =
     let part = c.args.part in
     let good = g.S.Scheme.good c.args.scheme.now in
     let m = meaning c.args.m.now in
-    let n = c.loop-board.board in
-    let r = c.loop-board.found.bits in
-    let small : n < 8 = omega arith in
-    let Next : Set → Type 0 = λ s. Found part good m (n + 1) s.bits in
-    elim c.if-is_sound.branch [
-      | then-is_sound w ↦
-          subst Next (sym w.found-is)
-          (found_more part good m n r w.with-found.result.bits small c.loop-board.invariant (c.is_sound.ensures.0 w.if-is_sound.true) w.with-found.ensures.each)
-      | else-is_sound w ↦
-          subst Next (sym w.found-is) (found_same part good m n r c.loop-board.invariant (λ s. both_ways c.is_sound.result w.if-is_sound.false (c.is_sound.ensures.1 s)))
-    ]
+    let of = ap (λ w. w.left.bits) c.filter.ensures.source ∙ ap (λ s. s.bits) c.boards.ensures ∙ c.boards_of.ensures in
+    let ran = c.fold.ensures.ran in
+    gathered part good m (λ x b q h. search (rules)) (λ a x b q h. search (rules)) _ _ _ _ _ _ c.filter.ensures.closure refl
+    (subst (λ s. Found part good m 0 (boards s)) (sym of) (found_none part good m)) ran.2 ran.3
 
 pub returns-clause-formed : goal.returns-clause-formed
-returns-clause-formed g c =
-    sound_is_good c.args.part (g.S.Scheme.good c.args.scheme.now) (meaning c.args.m.now) c.loop-board.found.bits (search (rules, found_all))
+returns-clause-formed g c = sound_is_good c.args.part (g.S.Scheme.good c.args.scheme.now) (meaning c.args.m.now) c.fold.result.bits (returns-clause-sound g c)
