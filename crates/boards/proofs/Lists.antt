@@ -1,6 +1,8 @@
 -- The boards of a set as a list, by rising number: what is left without the first of them, or without the last.
 -- The laws of `passing` are for any test; those of `boards` say them in the words of a set.
 use Rattle.std.proofs.Common.{◌≡◌, ℕ, zero, suc, ◌+◌, ◌<◌, Bool, true, false, cond, [], ◌∷◌, ◌++◌, sym, refl, ap, ◌∙◌, ⊎_elim, append-nil, arith}
+use Rattle.std.proofs.ByRecursion.{All-append}
+use Rattle.std.specs.List.{AllByRecursion}
 use Rattle.std.proofs.lemmas.Bool.{cases_Bool, cases_eq}
 use Rattle.boards.specs.Boards.{member, size, place, Without, passing, boards}
 use Rattle.boards.proofs.Sets.{no_member, place_below, place_rises, without_gone, without_old}
@@ -76,3 +78,17 @@ boards_last s b r e z w =
     passing_last (member s) (member r) b e (without_gone s b r below w) 8 below
     (λ k l m. ⊎_elim (λ y. absurd (omega (arith, place_rises s b k e m, place_below s k y))) (λ y. y) (cases_Bool (member s k)))
     (without_old s b r w)
+
+-- Each board of the list is of the set.
+all_passing : (P : ℕ → Bool) (n : ℕ) → AllByRecursion (λ b. P b ≡ true) (passing P n)
+unfolding passing
+all_passing P zero = tt
+all_passing P (suc n) = All-append _ (passing P n) (cond (P n) (n ∷ []) []) (all_passing P n) (by_test (P n) refl)
+  where
+    by_test : (t : Bool) → P n ≡ t → AllByRecursion (λ b. P b ≡ true) (cond t (n ∷ []) [])
+    by_test true e = (e, tt)
+    by_test false e = tt
+
+pub all_boards : (s : ℕ) → AllByRecursion (λ b. member s b ≡ true) (boards s)
+unfolding boards
+all_boards s = all_passing (member s) 8

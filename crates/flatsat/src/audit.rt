@@ -7,12 +7,12 @@ ghost use Rattle.wire.specs.Format.{Formed};
 ghost use Rattle.flatsat.specs.Audits.{keys_of, Judged, has_proof, Audits};
 
 use checks::{Part, boards_of, good_boards};
-use schemes::keyed::Keyed;
+use schemes::keyed::{Keyed, Keys};
 use script::audit::{Audit, Verdict};
 use wire::message::{Body, Message};
 
 // The boards' keys, board 0's first.
-pub(crate) fn keys(bytes: &[u8]) -> [[u8; 16]; 8]
+pub(crate) fn keys(bytes: &[u8]) -> Keys
     requires { length bytes.now ≡ 128 }
     ensures { result ≡ keys_of bytes.now }
 {
@@ -38,7 +38,7 @@ fn has_proof(m: &Message<'_>) -> bool
 }
 
 // The audit of a message under keys.
-pub(crate) fn audit(keys: &[[u8; 16]; 8], m: &Message<'_>) -> Audit
+pub(crate) fn audit(keys: &Keys, m: &Message<'_>) -> Audit
     ensures { Formed (meaning m.now) → Audits (keyed_good keys.now) (meaning m.now) result }
 {
     let scheme = Keyed::new(keys);

@@ -7,6 +7,7 @@ ghost use Rattle.flatsat.specs.Plays.{state_of, Answers, Told, LinePlayed, Lines
 use crate::audit::{audit, keys};
 use codes::Refusal;
 use reader::read::read;
+use schemes::keyed::Keys;
 use script::answer::{Answer, answer_line, tally_line};
 use script::call::{Call, parse};
 use script::hex::unhex;
@@ -15,15 +16,16 @@ use script::words::next_line;
 use std::alloc::{AllocError, Global};
 
 // The text so far, the count of the answers in it, and the boards' keys once there are some.
+// It is handed on by value: a line is added by `answer_line`, which takes the text and gives it back, so that an error leaves none behind.
 #[derive(Drop)]
 struct Page {
     text: Vec<u8>,
     tally: Tally,
-    keys: Option<[[u8; 16]; 8]>,
+    keys: Option<Keys>,
 }
 
 // What bytes are read as, audited once there are keys.
-fn heard<'a>(bytes: &'a [u8], keys: Option<&[[u8; 16]; 8]>) -> Answer<'a>
+fn heard<'a>(bytes: &'a [u8], keys: Option<&Keys>) -> Answer<'a>
     ensures { Answers (option_copied keys.entry) bytes.now result }
 {
     match (read(bytes), keys) {

@@ -18,7 +18,11 @@ use Rattle.std.specs.Fn.{CalledAt}
 use Rattle.std.proofs.iter.Yields.{nat_range_steps}
 use denote.Param.Members.{Mut}
 use denote.Ref.{Bor}
-use Rattle.wire.specs.Messages.{Reply, entry_in, listed, replies_in, reply_at, heard_replies}
+use Rattle.boards.specs.Boards.{member, boards}
+use Rattle.boards.proofs.Lists.{all_boards}
+use Rattle.boards.proofs.Members.{member_below}
+use Rattle.std.proofs.ByRecursion.{All-get_or}
+use Rattle.wire.specs.Messages.{Reply, entry_in, replies_in, reply_at, heard_replies}
 use Rattle.wire.specs.Acts.{tag_at}
 use Rattle.script.specs.Texts.{hex, tags_in}
 
@@ -88,30 +92,9 @@ module _ (size : ℕ) (count : ℕ → ℕ) (none : count 0 ≡ 0) (more : (n : 
       (λ s x t h step. (step.0 ∙ h, all_more (chunks_rest s) x.now (chunks_rest t) step.1.0 (step.1.1 ∙ ap (λ k. min k (length (chunks_rest s))) h) step.1.2))
       s e)
 
--- the boards that pass a closure's test
-pub boards_run : {F : Type 0} {s : Filter (Range ℕ) F} (g : Mut F (Bor ℕ × Unit {0}) Bool) (p : ℕ → Bool) {f : F} → filter_source s ≡ record { start = 0; end = 8 } → filter_callee s ≡ f → ((x : ℕ) (b : Bool) (q : F) → CalledAt g f x b q → (q ≡ f) × (b ≡ p x)) → YieldsList (filter_steps nat_range_steps g) (λ b. b) s (filter p (range_with_len 0 8))
-boards_run g p is callee k = YieldsList-from_filter g p (YieldsList-from_range 0 8 8 is refl) callee k
-
--- a board that is listed is one of eight
-pub below : (p : ℕ → Bool) (x k : ℕ) → k < length (filter p (range_with_len 0 8)) → x ≡ get_or (filter p (range_with_len 0 8)) k x → x < 8
-below p x k h e = subst (λ y. y < 8) (sym e) (All-filter p (λ y. y < 8) (range_with_len 0 8) (λ j d l. rw get_or-range_with_len (omega arith)) k x h)
-
-map_same : (xs : List ℕ) → map (λ x. x) xs ≡ xs
-map_same [] = refl
-map_same (x ∷ xs) = ap (λ t. x ∷ t) (map_same xs)
-
-range_last : (n : ℕ) → range_with_len 0 (suc n) ≡ range_with_len 0 n ++ n ∷ []
-range_last n = ap (range_with_len 0) (sym (add-one n)) ∙ sym (map_same (range_with_len 0 (n + 1))) ∙ map-range_with_len_more (λ x. x) 0 n n (omega arith) ∙ ap (λ t. t ++ n ∷ []) (map_same (range_with_len 0 n))
-
--- the boards below n that pass a test are listed
-pub listed_is : {X : Type 0} (h : ℕ → X) (p : ℕ → Bool) (n : ℕ) → map h (filter p (range_with_len 0 n)) ≡ listed p h n
-unfolding listed
-listed_is h p zero = refl
-listed_is h p (suc n) =
-    let one : (b : Bool) → map h (cond b (n ∷ []) []) ≡ cond b (h n ∷ []) [] =
-    λ b. elim b as (λ v. map h (cond v (n ∷ []) []) ≡ cond v (h n ∷ []) []) [ true ↦ refl | false ↦ refl ] in
-    ap (λ t. map h (filter p t)) (range_last n) ∙ ap (map h) (filter-append p (range_with_len 0 n) (n ∷ []))
-    ∙ map-append h (filter p (range_with_len 0 n)) (cond (p n) (n ∷ []) []) ∙ (λ i. listed_is h p n i ++ one (p n) i)
+-- a board that a walk over a set gives is one of eight
+pub below : (s x k : ℕ) → k < length (boards s) → x ≡ get_or (boards s) k x → x < 8
+below s x k h e = member_below s x (subst (λ y. member s y ≡ true) (sym e) (All-get_or (λ b. member s b ≡ true) (boards s) k x h (all_boards s)))
 
 -- how many tags bytes hold, and how many replies; one that is cut short counts
 abbrev pub eights : ℕ → ℕ

@@ -41,7 +41,7 @@ fn at_boards<T: Text + Drop, F: Fn(u8) -> T>(
     ensures { (text : ℕ → List ℕ) → ((b : ℕ) (item : T) → F.post at b item → T.text item ≡ text b)
         → Wrote line.old (commas (listed (member set.bits) text 8)) result line.new }
 {
-    commas(line, (0..8u8).filter(|board| set.has(*board)).map(at))
+    commas(line, set.boards().map(at))
 }
 
 // The boards of a set.

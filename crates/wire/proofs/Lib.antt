@@ -9,3 +9,4 @@ pub mod Spelt
 pub mod Eights
 pub mod Answered
 pub mod Worked
+pub mod Walks

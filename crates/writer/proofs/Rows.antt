@@ -3,7 +3,6 @@
 use Rattle.std.proofs.Common.{◌≡◌, ℕ, zero, suc, Bool, true, false, cond, map, List, [], ◌∷◌, ◌++◌, get_or, Some, None, Option, sym, refl, ap, ◌∙◌, subst}
 use Rattle.std.proofs.lemmas.List.{map-append}
 use Rattle.std.proofs.lemmas.Bool.{true≢false}
-use Rattle.std.proofs.ByRecursion.{All-append}
 use Rattle.std.specs.Fn.{Called}
 use Rattle.std.specs.Iterator.Adapters.{filter_map_steps}
 use Rattle.std.specs.List.{AllByRecursion}
@@ -12,7 +11,9 @@ use Rattle.std.specs.declared.iter.FilterMap.{FilterMap}
 use denote.Param.Members.{Mut}
 use Rattle.boards.specs.Boards.{member, passing, boards}
 use Rattle.boards.specs.declared.Boards.{Boards}
+use Rattle.boards.proofs.Lists.{all_boards}
 use Rattle.boards.proofs.Yields.{fronts}
+use Rattle.wire.proofs.Walks.{map_boards}
 use Rattle.wire.specs.declared.message.Entry.{Entry}
 use Rattle.wire.specs.declared.message.Tags.{Tags}
 use Rattle.wire.specs.declared.message.Replies.{Replies}
@@ -21,20 +22,6 @@ use Rattle.layout.specs.Measures.{Replied, reply_of}
 use Rattle.layout.specs.Layouts.{replies_bytes}
 use Rattle.layout.specs.declared.plan.Gathered.{Gathered}
 use Rattle.layout.proofs.Replies.{absent, replies_listed}
-
--- What f says of the boards of a set is what is listed of it.
-map_listed : {X : Type 0} (P : ℕ → Bool) (f : ℕ → X) (n : ℕ) → map f (passing P n) ≡ listed P f n
-unfolding passing listed
-map_listed P f zero = refl
-map_listed P f (suc n) = map-append f (passing P n) (cond (P n) (n ∷ []) []) ∙ (λ i. map_listed P f n i ++ by_test (P n) i)
-  where
-    by_test : (t : Bool) → map f (cond t (n ∷ []) []) ≡ cond t (f n ∷ []) []
-    by_test true = refl
-    by_test false = refl
-
-map_boards : {X : Type 0} (s : ℕ) (f : ℕ → X) → map f (boards s) ≡ listed (member s) f 8
-unfolding boards
-map_boards s f = map_listed (member s) f 8
 
 -- The bytes of the stored tags of boards.
 abbrev pub tags_at : List ℕ → List ℕ → List ℕ
@@ -72,19 +59,6 @@ answers_boards x =
 -- Boards of set s.
 abbrev pub Of : ℕ → List ℕ → Type 0
 Of s bs = AllByRecursion (λ b. member s b ≡ true) bs
-
-all_passing : (P : ℕ → Bool) (n : ℕ) → AllByRecursion (λ b. P b ≡ true) (passing P n)
-unfolding passing
-all_passing P zero = tt
-all_passing P (suc n) = All-append _ (passing P n) (cond (P n) (n ∷ []) []) (all_passing P n) (by_test (P n) refl)
-  where
-    by_test : (t : Bool) → P n ≡ t → AllByRecursion (λ b. P b ≡ true) (cond t (n ∷ []) [])
-    by_test true e = (e, tt)
-    by_test false e = tt
-
-pub all_boards : (s : ℕ) → Of s (boards s)
-unfolding boards
-all_boards s = all_passing (member s) 8
 
 -- A filter that asks for the reply of each board left in a walk over the set passes over none.
 module _ {F : Type 0} (x : Gathered) {g : Mut F (ℕ × Unit {0}) (Option (Entry × Tags))} {f : F}

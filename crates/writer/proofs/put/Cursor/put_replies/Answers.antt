@@ -5,7 +5,8 @@ use Rattle.boards.specs.Boards.{boards}
 use Rattle.wire.specs.Messages.{tags_of}
 use Rattle.layout.proofs.Fronts.{replies_even}
 use Rattle.writer.proofs.Puts.{starts, room, turn, ends}
-use Rattle.writer.proofs.Rows.{answers_at, answers_boards, all_boards, Of, next_reply, no_reply}
+use Rattle.boards.proofs.Lists.{all_boards}
+use Rattle.writer.proofs.Rows.{answers_at, answers_boards, Of, next_reply, no_reply}
 use Rattle.writer.proofs.put.Cursor.put_replies.Goals as goal
 
 pub loop-entry-init : goal.loop-entry-init
