@@ -30,11 +30,3 @@ genuine_means good m = (
   (λ e part. (part_means part good m).0 (genuine_part part good m e)),
   (λ f. and_from _ _ ((part_means Signers good m).1 (f Signers)) ((part_means Proof good m).1 (f Proof))),
 )
-
--- In a genuine message each signer's tag is good for the words of its act.
-pub genuine_signer : (good : Good) (m : Msg) (b : ℕ) → genuine good m ≡ true → member (signers m) b ≡ true → tag_good good m b ≡ true
-genuine_signer good m b e i = (genuine_means good m).0 e Signers b i
-
--- In a genuine message the tag of each board of the proof is good for the words of the ack that it proves.
-pub genuine_prover : (good : Good) (m : Msg) (b : ℕ) → genuine good m ≡ true → member (proof_of m).boards b ≡ true → ack_good good m b ≡ true
-genuine_prover good m b e i = (genuine_means good m).0 e Proof b i

@@ -10,7 +10,7 @@ use wire::field::{CHANGE, EARLIER, Field, NUMBER, RANK, SENDER, SORT, VIEW, ZERO
 use wire::kind::Kind;
 use wire::message::{Content, Entry, Sort};
 
-// Kind and view.
+// Kind and view; two parameters, as a struct of both would be made at each call only to be taken apart here.
 fn opening(kind: Kind, view: u8) -> Option<Head>
     ensures { Opened (kind_number kind) view result }
 {

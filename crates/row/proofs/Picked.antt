@@ -81,10 +81,6 @@ set_of_byte P (suc n) =
       | false ↦ set_of_byte P n
     ]
 
--- A byte with just the boards that pass is their set.
-pub set_of_is : (P : ℕ → Bool) (r : ℕ) → r < 256 → ((k : ℕ) → k < 8 → member r k ≡ P k) → r ≡ set_of P 8
-set_of_is P r h e = same_set r (set_of P 8) h (set_of_byte P 8) (λ k l. e k l ∙ sym (member_set_of P k l))
-
 -- The manager is the highest member: no member stands after the last rank.
 pub manager_is : (v b : ℕ) → Manager v b → manager_in v ≡ b
 manager_is v b m =

@@ -159,6 +159,7 @@ pub struct Content<'a> {
 }
 
 // What a message says besides its view: thirteen kinds.
+// Rank and change stay two fields where both are there: the rules ask for each by itself, and a struct of both would be taken apart in every arm.
 #[derive(Clone, Copy)]
 pub enum Body<'a> {
     Notify {
