@@ -119,7 +119,7 @@ impl Leader {
         ensures table { length self.now.counts ≡ 12 }
     {
         self.counts
-            .get(slot.place() as usize)
+            .get(usize::from(slot.place()))
             .copied()
             .unwrap_or(Count::NONE)
     }

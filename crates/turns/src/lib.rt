@@ -38,14 +38,14 @@ pub fn untimely(row: &Row, m: &Message<'_>) -> bool
 fn step(k: u8, below: u16) -> u16
     ensures { result ≡ 3 * k - below }
 {
-    (3 * k as u16).saturating_sub(below)
+    (3 * u16::from(k)).saturating_sub(below)
 }
 
 // LATE: the floor is not above the step that the message asks for.
 pub fn late(row: &Row, m: &Message<'_>) -> bool
     ensures { result ≡ late row.now.state (meaning m.now) }
 {
-    let floor = row.state.voter.floor as u16;
+    let floor = u16::from(row.state.voter.floor);
     match m.body {
         Body::Suggest { .. } => floor <= step(row.view().len(), 1),
         Body::Proposal { rank, .. } => floor <= step(rank, 2),

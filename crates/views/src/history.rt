@@ -49,6 +49,7 @@ impl Views {
     }
 
     // The members of the v-th view; no boards unless v is 1 to the latest.
+    // Places are cast by `as` in this file, not `usize::from`, which the proof of the recursion does not see through (tried).
     // It calls itself for the view before: by the rules of the project a view is told by the one before it and their change.
     pub fn members(&self, v: u8) -> Set
         ensures { result.bits ≡ members_of self.now.history v }

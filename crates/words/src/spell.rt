@@ -52,6 +52,7 @@ fn spelt(head: Head, payload: &[u8]) -> Words
     ensures { PutTogether head payload.now result }
 {
     let first = head.bytes();
+    // A cast by `as` computes in the proof; `usize::from` is one more fact.
     let front = Bytes::of(&first[..(head.width / 8) as usize]).unwrap();
     front.with(payload).unwrap()
 }
