@@ -105,7 +105,7 @@ pub enum Tags<'a> {
 }
 
 // Entries with their tags, by rising board number: as heard, nine bytes each, or as a row stores them, by board number.
-// Two arrays: a row keeps the tags of lasts as it keeps those of every other kind that it counts, and the entries, which only lasts have, beside them.
+// Two arrays: a row keeps the tags of lasts as it keeps those of every other kind that it counts, and the entries, which only lasts have, apart.
 #[derive(Clone, Copy)]
 pub enum Entries<'a> {
     Heard(&'a [u8]),
