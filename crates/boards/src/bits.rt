@@ -1,4 +1,4 @@
-// The bits of a byte that stands for a set of boards: the only file that shifts, masks or counts bits.
+// The bits of a byte that stands for a set of boards: the only file here that shifts, masks or counts bits.
 // Each function says in terms of members what its bits mean; the calls of a set rest on that alone.
 ghost use Rattle.std.specs.Prelude.{◌≡◌, ℕ, ◌<◌, ◌≤◌, true, not, ◌&&◌, ◌||◌, Decides, ◌==◌};
 ghost use Rattle.boards.specs.Boards.{member, only, size, place, Within};

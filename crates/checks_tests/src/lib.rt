@@ -1,4 +1,4 @@
-// Tests of checks: one message of each sort, good and forged, through both schemes.
+// Tests of checks: a suggest, a suggest-last and a notify, good and forged, through both schemes.
 // They stand in a crate of their own, so that `checks` is proved once.
 #![tactic(auto)]
 

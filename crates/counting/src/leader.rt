@@ -11,7 +11,7 @@ use seats::insert;
 use wire::message::Entry;
 
 // The count with one board more, and its tag.
-// Places are cast by `as` in this file: a cast computes in the proofs, where `usize::from` is one more fact to cite.
+// Places are cast by `as` in this file: `usize::from` is no plainer, and one more fact to cite in each proof.
 fn counted(count: &Count, board: u8, tag: u64) -> Count
     requires { board < 8 }
     ensures { result ≡ counted count.now board tag }

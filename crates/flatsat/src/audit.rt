@@ -43,11 +43,6 @@ pub(crate) fn audit(keys: &Keys, m: &Message<'_>) -> Audit
 {
     let scheme = Keyed::new(keys);
     let signers = verdict(&scheme, m, Part::Signers);
-    // An `if`: a closure for `then` promises nothing of what `verdict` does, unless that contract is written again on it.
-    let proof = if has_proof(m) {
-        Some(verdict(&scheme, m, Part::Proof))
-    } else {
-        None
-    };
+    let proof = has_proof(m).then(|| verdict(&scheme, m, Part::Proof));
     Audit { signers, proof }
 }

@@ -28,10 +28,9 @@ struct Page {
 fn heard<'a>(bytes: &'a [u8], keys: Option<&Keys>) -> Answer<'a>
     ensures { Answers (option_copied keys.entry) bytes.now result }
 {
-    match (read(bytes), keys) {
-        (Ok(message), Some(keys)) => Answer::Heard(message, Some(audit(keys, &message))),
-        (Ok(message), None) => Answer::Heard(message, None),
-        (Err(fault), _) => Answer::Refused(Refusal::from(fault)),
+    match read(bytes) {
+        Ok(message) => Answer::Heard(message, keys.map(|keys| audit(keys, &message))),
+        Err(fault) => Answer::Refused(Refusal::from(fault)),
     }
 }
 
@@ -69,7 +68,7 @@ impl Page {
     }
 }
 
-// Plays the lines of a script, the first as the first.
+// Plays the lines of a script, from the first to the last.
 fn lines(heap: Global, script: &[u8]) -> Result<Page, AllocError>
     ensures { IfOk result (λ p. LinesPlayed script.now (state_of p)) }
 {
@@ -79,8 +78,8 @@ fn lines(heap: Global, script: &[u8]) -> Result<Page, AllocError>
         keys: None,
     };
     let mut rest = script;
-    // Not `split`: no plainer, since behind the last newline it has one more line, an empty one, which is no line of the script:
-    // that it answers nothing, and that the count has room for it, would have to be shown besides.
+    // Neither `split` nor `split_inclusive`, which are no plainer: behind the last newline the one has one more line, an empty one, which is
+    // no line of the script, and the other leaves each newline on its line, where `next_line` has the words of the script's definition.
     while !rest.is_empty() {
         let (line, after) = next_line(rest);
         page = page.line(heap, line)?;

@@ -39,7 +39,7 @@ impl Head {
         )
     }
 
-    // One more field, whose value may be `least` to `most`.
+    // One more field, whose value may be `least` to `most`, of any width: a `Field` is for 8 bits and bytes.
     // Two numbers and no range: the library's also says whether it was gone through, which the contract would have to speak of.
     pub fn with(self, width: u8, value: usize, least: usize, most: usize) -> Option<Head>
         ensures { Joined self width value (from_to least most value) result }

@@ -1,4 +1,4 @@
-// What kinds open with, one function for each shape of head. Values are cast by `as`: a cast computes in the proofs, `usize::from` is one more fact.
+// What kinds open with, one function for each shape of head. Values are cast by `as`: `usize::from` is no plainer, and one more fact in each proof.
 // Messages and signed words have their own tables of what follows kind and view, and share these: specs/Shapes.antt.
 ghost use Rattle.std.specs.Prelude.{◌≡◌};
 ghost use Rattle.wire.specs.Kinds.{kind_number};

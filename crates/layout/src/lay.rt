@@ -12,7 +12,7 @@ use head::number::Head;
 use head::shapes::{carried, entered, graded, noted, ranked};
 use wire::field::SET;
 use wire::kind::Kind;
-use wire::message::{Body, Content, Entry, Message, Replies, Spoken, Tagged};
+use wire::message::{Body, Content, Entry, Message, Replies, Tagged};
 
 // The layout of a message, if there are bytes that spell it.
 // An arm for each kind: two kinds of one shape in one arm would be no shorter, since each names its fields anyway.
@@ -46,10 +46,9 @@ pub fn lay_out<'a>(m: &Message<'a>) -> Option<Layout<'a>>
             replies,
             proof,
         } => suggest_last(ranked(Kind::SuggestLast, view, rank)?, replies, proof),
-        Body::Init { content, tag } => loaded(Kind::Init, view, content)?.alone(Spoken {
-            speaker: content.sender,
-            tag,
-        }),
+        Body::Init { content, tag } => {
+            loaded(Kind::Init, view, content)?.alone(content.spoken(tag))
+        }
         Body::Echo { content, own } => loaded(Kind::Echo, view, content)?.alone(own),
         Body::Commit { content, by } => loaded(Kind::Commit, view, content)?.sealed(by),
     }

@@ -22,6 +22,7 @@ impl<'a> Whole<'a> {
         ensures { PartRead n self.entry.reader result }
     {
         let mut reader = self.reader;
+        // No `ok_or` with `?` (tried): the proof has to take the result apart again, which the `else` does by itself.
         let Some(part) = reader.src[reader.byte..].get(..n) else {
             return Err(reader.missing());
         };
@@ -29,7 +30,7 @@ impl<'a> Whole<'a> {
         Ok((part, Whole { reader }))
     }
 
-    // A set whose byte is from `least` to `most`.
+    // A set whose byte is from `least` to `most`: two bytes and no `Field`, of which it would have to be asked that it is as wide as a set.
     fn set(self, least: u8, most: u8) -> Reading<'a, Set>
         ensures { SetRead least most self.entry.reader result }
     {

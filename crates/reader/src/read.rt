@@ -45,7 +45,7 @@ impl<'a> Opening<'a> {
         })
     }
 
-    // What follows kind and view, up to the message's end.
+    // What follows kind and view, up to the message's end. An arm for each kind: two of one shape in one arm would name their fields anyway.
     fn body(self) -> Result<Body<'a>, Fault>
         ensures { BodyRead self.entry result }
     {

@@ -34,7 +34,7 @@ pub enum Answer<'a> {
 }
 
 impl Reason {
-    // The reason in plain words.
+    // The reason in plain words; by the trait `Text` alone it is ever written.
     fn name(self) -> &'static str
         ensures { result.now ≡ reason_text self }
     {

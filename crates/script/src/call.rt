@@ -85,6 +85,7 @@ fn said(text: &[u8]) -> Result<Option<Call<'_>>, Reason>
     if !is_text(text) {
         return Err(Reason::NotText);
     }
+    // An `else`: a line with no word is no error that `?` could pass on.
     let Some((name, rest)) = next_word(text) else {
         return Ok(None);
     };

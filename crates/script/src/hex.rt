@@ -7,16 +7,11 @@ ghost use Rattle.script.specs.Hex.{nibble, read_hex, Undone};
 use crate::line::Text;
 use std::alloc::AllocError;
 
-// The number that a digit stands for. Not `char::to_digit`: no plainer, with a char made and a none taken away.
+// The number that a digit stands for; 0 for what is none.
 fn nibble(digit: u8) -> u8
     ensures { (result ≡ nibble digit) × (result < 16) }
 {
-    match digit {
-        b'0'..=b'9' => digit - 48,
-        b'A'..=b'F' => digit - 55,
-        b'a'..=b'f' => digit - 87,
-        _ => 0,
-    }
+    char::from(digit).to_digit(16).unwrap_or(0) as u8
 }
 
 // Adds the bytes that hexadecimal digits stand for, two digits each; of an odd number of digits the last is left out.

@@ -21,6 +21,7 @@ where
     requires ends { IsFinite (I.remaining items) }
     ensures { (texts : List (List ℕ)) → AlwaysYields I.next_gives I.Item.text items texts → Wrote line.old (commas texts) result line.new }
 {
+    // An `else`: a list with no item is no error that `?` could pass on.
     let Some(first) = items.next() else {
         return "-".write(line);
     };

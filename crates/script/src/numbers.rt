@@ -7,7 +7,7 @@ ghost use Rattle.script.specs.Texts.{hex_digit, hex, payload_text};
 use crate::line::{Field, Text};
 use std::alloc::AllocError;
 
-// A number in decimal digits. Not `to_string`: it would take memory of its own.
+// A number in decimal digits. Not `to_string`, which would take memory of its own; a call of itself, since digits come out from the last to the first.
 fn digits(line: &mut Vec<u8>, n: u64) -> Result<(), AllocError>
     ensures { Wrote line.old (decimal n) result line.new }
 {

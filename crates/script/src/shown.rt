@@ -95,7 +95,7 @@ impl Text for Gathered<'_> {
     }
 }
 
-// A proof: the boards that acknowledged, and their tags.
+// A proof: the boards that acknowledged, and their tags. Apart from `Gathered`: with both names in one struct, six places would have to give them.
 #[derive(Clone, Copy)]
 struct Proof<'a>(Tagged<'a>);
 
@@ -181,11 +181,8 @@ impl Text for Message<'_> {
                 proof,
             } => { (Ranked { opening, rank }, (replies, Proof(proof))).write(line) }
             Body::Init { content, tag } => {
-                let own = Spoken {
-                    speaker: content.sender,
-                    tag,
-                };
-                (opening, (content, Field("tag", own.tagged()))).write(line)
+                let own = content.spoken(tag).tagged();
+                (opening, (content, Field("tag", own))).write(line)
             }
             Body::Echo { content, own } => (opening, (content, own)).write(line),
             Body::Commit { content, by } => (opening, (content, Gathered(by))).write(line),

@@ -64,7 +64,7 @@ fn lone<'a>(statement: &Statement<'a>, board: u8, shown: &'a Count, tag: u64) ->
     }
 }
 
-// A board's tag for a statement; none if the statement has no words or the scheme refuses, and then nothing changes.
+// A board's tag for a statement; none if the statement has no words or the scheme refuses, and then nothing changes. An `Option`, as in `post`.
 fn signed<S: Scheme>(scheme: &mut S, board: u8, statement: &Statement<'_>) -> Option<u64>
     ensures { SignsFor S.Scheme board (said statement.now) scheme.old result scheme.new }
 {
@@ -72,7 +72,7 @@ fn signed<S: Scheme>(scheme: &mut S, board: u8, statement: &Statement<'_>) -> Op
     scheme.sign(board, words.as_slice()).ok()
 }
 
-// Signs a statement and writes its lone message; none if the board cannot, and then nothing changes.
+// Signs a statement and writes its lone message; none if the board cannot, and then nothing changes. An `Option`, as in `post`.
 pub fn speak<'a, S: Scheme>(
     scheme: &mut S,
     board: u8,

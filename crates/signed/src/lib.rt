@@ -16,7 +16,7 @@ use crate::acks::Proof;
 use crate::replies::{entry_of, lowest, reply_tag};
 use crate::tags::{tag_by, whole_tag};
 use boards::Set;
-use wire::message::{Body, Entry, Message, Spoken, Tagged, Tags};
+use wire::message::{Body, Entry, Message, Tagged, Tags};
 use words::statement::{Claim, Statement};
 
 // The boards whose tags a message has.
@@ -80,13 +80,7 @@ pub fn tag(m: &Message<'_>, board: u8) -> Option<u64>
         | Body::Ready { own, .. }
         | Body::Deputy { own, .. }
         | Body::Echo { own, .. } => tag_by(own.tagged(), board),
-        Body::Init { content, tag } => {
-            let own = Spoken {
-                speaker: content.sender,
-                tag,
-            };
-            tag_by(own.tagged(), board)
-        }
+        Body::Init { content, tag } => tag_by(content.spoken(tag).tagged(), board),
         Body::Last { own, .. } => whole_tag(own, board),
         Body::Suggest { by, .. }
         | Body::Proposal { by, .. }
@@ -113,7 +107,7 @@ pub fn proof(m: &Message<'_>) -> Option<Proof>
     ensures { Proves (meaning m.now) result }
 {
     let boards = proof_by(m).set;
-    if boards == Set::EMPTY {
+    if boards.is_empty() {
         return None;
     }
     let Entry { earlier, change } = lowest_entry(m);

@@ -96,7 +96,7 @@ impl View {
         self.at(self.len()).unwrap()
     }
 
-    // How many members may be faulty, and how many make a quorum. A cast by `as` computes in the proof; `usize::from` is one more fact.
+    // How many members may be faulty, and how many make a quorum. Cast by `as`: `usize::from` is no plainer, and one more fact in the proof.
     pub fn shares(&self) -> Share
         ensures { Shared (size self.now.set.bits) result }
     {

@@ -52,7 +52,7 @@ impl TryFrom<u8> for Kind {
 }
 
 impl Kind {
-    // Its name. Beside `Display`, for who writes to bytes and has to know that nothing but memory can be wanting.
+    // Its name, for whoever writes it without a formatter, as who writes to bytes and has to know that nothing but memory can be wanting.
     pub fn name(self) -> &'static str
         ensures { result.now ≡ kind_name self }
     {

@@ -1,4 +1,4 @@
-// A message of the backplane: thirteen kinds that name payload and tags as parts of the bytes they were read from.
+// A message of the backplane: thirteen kinds, whose payload and tags are lent, of the bytes they were read from or of a row.
 // Rules: docs/FRAMES.md, "Kinds". What a value means, apart from where its bytes lie, is `meaning` in specs/Messages.antt.
 ghost use Rattle.std.specs.Prelude.{◌≡◌, Some};
 ghost use Rattle.boards.specs.Boards.{only};
@@ -32,7 +32,7 @@ impl TryFrom<u8> for Sort {
 }
 
 impl Sort {
-    // Its name.
+    // Its name, for whoever writes it without a formatter.
     pub fn name(self) -> &'static str
         ensures { result.now ≡ sort_name self }
     {
@@ -96,7 +96,7 @@ impl From<Entry> for u8 {
 }
 
 // The tags of a set's boards, by rising board number: as heard, eight bytes each; as a row stores them, by board number;
-// or one that was just signed.
+// or one alone as a number, as it was just signed.
 #[derive(Clone, Copy)]
 pub enum Tags<'a> {
     Heard(&'a [u8]),
@@ -156,6 +156,19 @@ pub struct Content<'a> {
     pub number: u8,
     pub sort: Sort,
     pub payload: &'a [u8],
+}
+
+impl<'a> Content<'a> {
+    // The sender with a tag of its own, as an init has it.
+    pub fn spoken(self, tag: Tags<'a>) -> Spoken<'a>
+        ensures speaker { result.speaker ≡ self.entry.sender }
+        ensures tag { result.tag ≡ tag.entry }
+    {
+        Spoken {
+            speaker: self.sender,
+            tag,
+        }
+    }
 }
 
 // What a message says besides its view: thirteen kinds.

@@ -1,5 +1,5 @@
 // The words of a statement: a head of whole bytes, and in an init or an echo the payload.
-// They are put together in one buffer, each byte once.
+// They are put together in one buffer, one part behind the other.
 ghost use Rattle.std.specs.Prelude.{◌≡◌, ◌%◌, ◌≤◌, length};
 ghost use Rattle.words.specs.Said.{said, Spelt};
 ghost use Rattle.words.specs.Openings.{load, PutTogether, Stated};
@@ -52,7 +52,7 @@ fn spelt(head: Head, payload: &[u8]) -> Words
     ensures { PutTogether head payload.now result }
 {
     let first = head.bytes();
-    // A cast by `as` computes in the proof; `usize::from` is one more fact.
+    // A cast by `as`: `usize::from` is no plainer, and one more fact in the proof.
     let front = Bytes::of(&first[..(head.width / 8) as usize]).unwrap();
     front.with(payload).unwrap()
 }

@@ -12,6 +12,8 @@ use layout::gather::reply;
 use layout::plan::{Gathered, Layout, Middle};
 use wire::message::{Entry, Tagged, Tags};
 
+// The place stands beside the bytes: bytes that were cut off as they are written would not tell how many they were.
+// How much room there is each step asks for its own part, since only `put_layout` knows all that is to come.
 #[derive(Drop)]
 struct Cursor<'b> {
     out: &'b mut [u8],
@@ -53,7 +55,7 @@ impl<'b> Cursor<'b> {
         requires { (self.old.at + length (head_bytes head) ≤ length self.old.out.now) × (head.width % 8 ≡ 0) }
         ensures { Puts self.old (head_bytes head) self.new }
     {
-        // A cast, as in `put_stored`: in a proof it computes, where `usize::from` is one more fact to cite.
+        // A cast by `as`: `usize::from` is no plainer, and one more fact to cite in the proof.
         let bytes = head.bytes();
         self.put(&bytes[..(head.width / 8) as usize]);
     }

@@ -1,12 +1,14 @@
 -- Each kind by its head and its end; a kind whose head may not stand has no layout.
 -- What the table has for the kind, antt computes.
-use Rattle.std.proofs.Common.{◌≡◌, ◌<◌, ℕ, ◌∷◌, [], true, refl, ap, ◌∙◌, arith}
+use Rattle.std.proofs.Common.{◌≡◌, ◌<◌, ℕ, ◌∷◌, [], true, refl, ap, ◌∙◌, subst, arith}
 use Rattle.std.proofs.lemmas.Bool.{and_from, both_ways, le-leb}
 use Rattle.boards.specs.Boards.{only}
 use Rattle.grammar.specs.Grammar.{Item, from_to}
 use Rattle.grammar.proofs.Held.{held}
 use Rattle.wire.specs.Fields.{lone, own_tag}
 use Rattle.wire.specs.Format.{opening}
+use Rattle.wire.specs.declared.message.Tags.{Tags}
+use Rattle.layout.specs.Layouts.{Alone}
 use Rattle.layout.proofs.Fronts.{headed, headless, opened}
 use Rattle.layout.proofs.Seals.{gathered, lone_above, lone_below, spoken, unlaid, unlaid_at}
 use Rattle.layout.proofs.Allowed.{carried_small}
@@ -91,7 +93,10 @@ returns-in_ok-loaded-in-Init c =
     let x = c.in-Init.content in
     let f = c.in_ok-loaded-in-Init.ensures.fronts _ refl refl _ refl in
     let small : x.sender < 8 = (carried_small {f = own_tag} refl f.goes).0 in
-    rw c.in-Init.is (c.alone-in-Init.ensures _ _ f (λ _. itself (only x.sender)) (λ h. absurd (omega arith)))
+    let front = c.in_ok-loaded-in-Init.field-0 in
+    let r = c.alone-in-Init.result in
+    let own = subst (λ (b : ℕ). Alone front b c.spoken.result.tag r) c.spoken.ensures.speaker c.alone-in-Init.ensures in
+    rw c.in-Init.is (subst (λ (t : Tags). Alone front x.sender t r) c.spoken.ensures.tag own _ _ f (λ _. itself (only x.sender)) (λ h. absurd (omega arith)))
 
 pub returns-in_err-loaded-in-Echo : goal.returns-in_err-loaded-in-Echo
 returns-in_err-loaded-in-Echo c = rw c.in-Echo.is (unlaid _ c.from_residual-in_err-loaded-in-Echo.ensures (c.in_err-loaded-in-Echo.ensures.none refl refl _ refl))
