@@ -90,11 +90,7 @@ impl Set {
     pub fn rank(self, board: u8) -> Option<u8>
         ensures { Rank self.bits board result }
     {
-        if self.has(board) {
-            Some(bits::before(self.bits, board) + 1)
-        } else {
-            None
-        }
+        self.has(board).then(|| bits::before(self.bits, board) + 1)
     }
 
     // The board of a rank; none at rank 0 or above the size.

@@ -1,10 +1,11 @@
 -- The sound boards of a part found one board at a time: each is found, or is one that is still to be asked.
 -- A tag is decided by what is had of it: its statement's words, its number, and what the scheme says of both.
-use Rattle.std.proofs.Common.{◌≡◌, ℕ, zero, suc, ◌^◌, ◌<◌, Bool, true, false, cond, ◌||◌, eqb, List, [], ◌∷◌, length, Bor, Decides, sym, refl, ap, ◌∙◌, subst, ⊎_elim, arith}
+use Rattle.std.proofs.Common.{◌≡◌, ℕ, zero, suc, ◌^◌, ◌<◌, Bool, true, false, cond, ◌||◌, eqb, List, [], ◌∷◌, length, Bor, Decides, Some, None, Option, MatchOption, sym, refl, ap, ◌∙◌, subst, ⊎_elim, arith}
 use Rattle.std.proofs.Math.Bool.{or-false}
 use Rattle.std.proofs.lemmas.Bool.{both_ways, cases_eq, eq-eqb, ne_eqb, or_left, or_right, true≢false}
 use Rattle.std.proofs.lemmas.List.Folds.{list_any-append}
 use Rattle.std.specs.Fn.{Called, CalledAt}
+use Rattle.std.specs.Option.{option_zip}
 use Rattle.std.specs.Iterator.{Drains, Yields}
 use Rattle.std.specs.Iterator.Adapters.{filter_steps}
 use Rattle.std.specs.List.{FoldsTo, list_any}
@@ -22,16 +23,32 @@ use Rattle.wire.specs.Acts.{Act, Allowed, words, tag_number}
 use Rattle.wire.proofs.Eights.{number_of_tag}
 use Rattle.checks.specs.declared.Part.{Part}
 use Rattle.checks.specs.Checks.{boards_in, act_in, tag_in, good_in, Sound, SoundBoards}
-use Rattle.checks.specs.Parts.{StandsFor}
+use Rattle.checks.specs.Parts.{StandsFor, StatedIn}
+use Rattle.signed.specs.Signed.{TagIs}
+use Rattle.words.specs.declared.statement.Statement.{Statement}
+use Rattle.words.specs.Said.{said}
 
 -- What is had of a board's tag decides whether it is sound.
-pub decided : (part : Part) (good : Good) (m : Msg) (b : ℕ) (a : Act) (x : ℕ) (r : Bool) → member (boards_in part m) b ≡ true → a ≡ act_in part m b
+decided : (part : Part) (good : Good) (m : Msg) (b : ℕ) (a : Act) (x : ℕ) (r : Bool) → member (boards_in part m) b ≡ true → a ≡ act_in part m b
     → tag_bytes x ≡ tag_in part m b → x < 2 ^ 64 → Decides r (StandsFor good b a x) → Decides r (Sound part good m b)
 decided part good m b a x r i e et small d =
     let same : good b (words a) x ≡ good_in part good m b = (λ j. good b (words (e j)) (sym (number_of_tag x small) j)) ∙ ap (λ t. good b (words (act_in part m b)) (tag_number t)) et in (
       (λ y. let s = d.0 y in record { belongs = i; may_sign = subst Allowed e s.0; eight = ap length (sym et); is_good = sym same ∙ s.1 }),
       (λ s. d.1 (subst Allowed (sym e) s.may_sign, same ∙ s.is_good)),
     )
+
+-- The same of a statement and a tag that may be missing: a board that has not both is not sound.
+pub decided_by : (P : Statement × ℕ → Type 0) (part : Part) (good : Good) (m : Msg) (b : ℕ) (o : Option Statement) (t : Option ℕ) (z : Option (Statement × ℕ)) (r : Bool)
+    → StatedIn part m b o → TagIs (boards_in part m) b (tag_in part m b) t → z ≡ option_zip o t → ((s : Statement) (x : ℕ) → P (s, x) → (x < 2 ^ 64) × Decides r (StandsFor good b (said s) x))
+    → MatchOption z (r ≡ false) P → Decides r (Sound part good m b)
+decided_by P part good m b (Some s) (Some x) z r h k e asks d =
+    let n = asks s x (subst (λ o. MatchOption o (r ≡ false) P) e d) in decided part good m b (said s) x r h.0 h.1 k.1 n.0 n.1
+decided_by P part good m b (Some s) None z r h k e asks d =
+    let no : r ≡ false = subst (λ o. MatchOption o (r ≡ false) P) e d in
+    (λ y. absurd (both_ways r no y), λ y. absurd (⊎_elim (λ f. both_ways _ f y.belongs) (λ short. short y.eight) k))
+decided_by P part good m b None t z r h k e asks d =
+    let no : r ≡ false = subst (λ o. MatchOption o (r ≡ false) P) e d in
+    (λ y. absurd (both_ways r no y), λ y. absurd (both_ways _ h y.belongs))
 
 -- Whether board b is one of a list.
 abbrev among : ℕ → List ℕ → Bool

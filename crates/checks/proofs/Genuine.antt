@@ -7,10 +7,9 @@ use Rattle.boards.proofs.Chosen.{every_at, every_true}
 use Rattle.boards.proofs.Members.{member_below}
 use Rattle.schemes.specs.Meaning.{Good}
 use Rattle.wire.specs.Messages.{Msg}
-use Rattle.wire.specs.Acts.{signers, proof_of}
 use Rattle.checks.specs.declared.Part.{Part}
 use Rattle.checks.specs.declared.Part.TheVariants.{Signers, Proof}
-use Rattle.checks.specs.Checks.{boards_in, good_in, tag_good, ack_good, part_genuine, genuine, GenuineMeans}
+use Rattle.checks.specs.Checks.{boards_in, good_in, part_genuine, genuine, GenuineMeans}
 
 pub part_means : (part : Part) (good : Good) (m : Msg) → Decides (part_genuine part good m) ((b : ℕ) → member (boards_in part m) b ≡ true → good_in part good m b ≡ true)
 part_means part good m = (

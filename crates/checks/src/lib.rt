@@ -69,10 +69,9 @@ fn holds<S: Scheme>(scheme: &S, board: u8, act: Statement<'_>, tag: u64) -> bool
 fn is_sound<S: Scheme>(scheme: &S, m: &Message<'_>, part: Part, board: u8) -> bool
     ensures { Decides result (Sound part (S.good scheme.now) (meaning m.now) board) }
 {
-    let (Some(act), Some(tag)) = (stated(m, part, board), tag_in(m, part, board)) else {
-        return false;
-    };
-    holds(scheme, board, act, tag)
+    stated(m, part, board)
+        .zip(tag_in(m, part, board))
+        .is_some_and(|(act, tag)| holds(scheme, board, act, tag))
 }
 
 // The boards of a part whose tags are good.

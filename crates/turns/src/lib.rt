@@ -22,16 +22,15 @@ fn at_rank(row: &Row, rank: u8) -> bool
 pub fn untimely(row: &Row, m: &Message<'_>) -> bool
     ensures { result ≡ untimely row.now.state (meaning m.now) }
 {
-    let stand = row.state.leader.stand;
-    match m.body {
-        Body::Notify { .. } => !(at_rank(row, row.view().len()) && stand == Stand::Idle),
-        Body::Ack { rank, change, .. } => !(at_rank(row, rank) && stand == Stand::Acks { change }),
-        Body::Ready { rank, change, .. } => !(at_rank(row, rank)
-            && stand == Stand::Readies { change }),
-        Body::Deputy { rank, .. } => !(at_rank(row, rank) && stand == Stand::Idle),
-        Body::Last { rank, .. } => !(at_rank(row, rank) && stand == Stand::Lasts),
-        _ => false,
-    }
+    let awaited = match m.body {
+        Body::Notify { .. } => Some((row.view().len(), Stand::Idle)),
+        Body::Ack { rank, change, .. } => Some((rank, Stand::Acks { change })),
+        Body::Ready { rank, change, .. } => Some((rank, Stand::Readies { change })),
+        Body::Deputy { rank, .. } => Some((rank, Stand::Idle)),
+        Body::Last { rank, .. } => Some((rank, Stand::Lasts)),
+        _ => None,
+    };
+    awaited.is_some_and(|(rank, stand)| !(at_rank(row, rank) && row.state.leader.stand == stand))
 }
 
 // The step that rank k asks for: so many below three times the rank.
@@ -45,14 +44,14 @@ fn step(k: u8, below: u16) -> u16
 pub fn late(row: &Row, m: &Message<'_>) -> bool
     ensures { result ≡ late row.now.state (meaning m.now) }
 {
-    let floor = u16::from(row.state.voter.floor);
-    match m.body {
-        Body::Suggest { .. } => floor <= step(row.view().len(), 1),
-        Body::Proposal { rank, .. } => floor <= step(rank, 2),
-        Body::Query { rank, .. } => floor <= step(rank, 0),
-        Body::SuggestLast { rank, .. } => floor <= step(rank, 1),
-        _ => false,
-    }
+    let asked = match m.body {
+        Body::Suggest { .. } => Some(step(row.view().len(), 1)),
+        Body::Proposal { rank, .. } => Some(step(rank, 2)),
+        Body::Query { rank, .. } => Some(step(rank, 0)),
+        Body::SuggestLast { rank, .. } => Some(step(rank, 1)),
+        _ => None,
+    };
+    asked.is_some_and(|step| u16::from(row.state.voter.floor) <= step)
 }
 
 // Whether the board's message for this slot is counted.
@@ -66,12 +65,13 @@ fn counted_already(row: &Row, slot: Slot, board: u8) -> bool
 pub fn known(row: &Row, m: &Message<'_>) -> bool
     ensures { result ≡ known row.now.state (meaning m.now) }
 {
-    match m.body {
-        Body::Notify { change, own } => counted_already(row, Slot::Notify(change), own.speaker),
-        Body::Ack { own, .. } => counted_already(row, Slot::Ack, own.speaker),
-        Body::Ready { own, .. } => counted_already(row, Slot::Ready, own.speaker),
-        Body::Deputy { own, .. } => counted_already(row, Slot::Deputy, own.speaker),
-        Body::Last { own, .. } => counted_already(row, Slot::Last, own.speaker),
-        _ => false,
-    }
+    let told = match m.body {
+        Body::Notify { change, own } => Some((Slot::Notify(change), own.speaker)),
+        Body::Ack { own, .. } => Some((Slot::Ack, own.speaker)),
+        Body::Ready { own, .. } => Some((Slot::Ready, own.speaker)),
+        Body::Deputy { own, .. } => Some((Slot::Deputy, own.speaker)),
+        Body::Last { own, .. } => Some((Slot::Last, own.speaker)),
+        _ => None,
+    };
+    told.is_some_and(|(slot, speaker)| counted_already(row, slot, speaker))
 }

@@ -1,6 +1,6 @@
 -- What a message says that a row takes: its fields are in range.
 -- One lemma a kind; what the kinds share comes first.
-use Rattle.std.proofs.Common.{◌≡◌, ℕ, ◌*◌, ◌^◌, ◌<◌, ◌≤◌, Bool, false, Some, None, Option, IfSome, ⊎_elim, not, ◌||◌, List, length, sym, refl, ap, subst, ◌∙◌, arith}
+use Rattle.std.proofs.Common.{◌≡◌, ℕ, ◌*◌, ◌^◌, ◌<◌, ◌≤◌, Bool, false, Some, None, Option, IfSome, ⊎_elim, not, ◌||◌, List, length, sym, subst, ◌∙◌, arith}
 use Rattle.std.proofs.lemmas.Bool.{cases_Bool, cond-true, cond-false, eqb-true, not-false, or_parts}
 use Rattle.std.specs.Option.{unwrap_or}
 use Rattle.boards.specs.Boards.{member, size, place}
@@ -12,7 +12,7 @@ use Rattle.schemes.specs.declared.Scheme.{Ghosts}
 use Rattle.checks.specs.Checks.{genuine}
 use Rattle.wire.specs.declared.message.Body.{Body}
 use Rattle.wire.specs.Messages.{Msg, Reply, said_in}
-use Rattle.wire.specs.Acts.{lowest, tag_of, tag_number}
+use Rattle.wire.specs.Acts.{lowest, signers, tag_of, tag_number}
 use Rattle.signed.specs.Signed.{SignerTagged}
 use Rattle.wire.proofs.Signs.{lowest_fits}
 use Rattle.wire.proofs.Spelt.{between}
@@ -24,13 +24,12 @@ use Rattle.admission.proofs.Early.{Passed, passed}
 use Rattle.voting.specs.Votes.{Taken, WholeTags}
 
 -- A signer's tag is the number of its bytes; another board has none.
-pub heard_as : (m : Msg) (a b : ℕ) (o : Option ℕ) → WholeTags m a → SignerTagged m b o → IfSome o (λ x. x < 2 ^ 64) → unwrap_or o 0 ≡ heard_tag m a b
-heard_as m a b (Some x) w t fits =
-    sym (cond-true (member a b) (tag_number (tag_of m b)) 0 (ap (λ s. member s b) (sym w.signed) ∙ t.0) ∙ number_is x (tag_of m b) fits t.1)
-heard_as m a b None w t fits =
-    let out : member a b ≡ false =
-    ⊎_elim (λ f. ap (λ s. member s b) (sym w.signed) ∙ f) (λ short. ⊎_elim (λ i. absurd (short (w.long b i))) (λ no. no) (cases_Bool (member a b))) t in
-    sym (cond-false (member a b) (tag_number (tag_of m b)) 0 out)
+pub heard_as : (m : Msg) (b : ℕ) (o : Option ℕ) → WholeTags m → SignerTagged m b o → IfSome o (λ x. x < 2 ^ 64) → unwrap_or o 0 ≡ heard_tag m (signers m) b
+heard_as m b (Some x) long t fits = sym (cond-true (member (signers m) b) (tag_number (tag_of m b)) 0 t.0 ∙ number_is x (tag_of m b) fits t.1)
+heard_as m b None long t fits =
+    let out : member (signers m) b ≡ false =
+    ⊎_elim (λ no. no) (λ short. ⊎_elim (λ i. absurd (short (long b i))) (λ no. no) (cases_Bool (member (signers m) b))) t in
+    sym (cond-false (member (signers m) b) (tag_number (tag_of m b)) 0 out)
 
 -- A member's view has a member.
 peopled : (s : State) (x : Bool) → (not (inside s) || x) ≡ false → 1 ≤ many s
@@ -48,7 +47,7 @@ module _ {S : Type 0} (g : Ghosts S) where
   takes_suggest st s v c a t room h = (held h.formed).3.3.3.1
 
   pub takes_proposal : (st : State) (s : S) (v k c a : ℕ) (t : List ℕ) (room : ℕ) → Taken g st s (Msg.proposal v k c a t) room
-      → ((1 ≤ k) × (k ≤ 8) × (c < 8)) × WholeTags (Msg.proposal v k c a t) a × (1 ≤ size a)
+      → ((1 ≤ k) × (k ≤ 8) × (c < 8)) × WholeTags (Msg.proposal v k c a t) × (1 ≤ size a)
   takes_proposal st s v k c a t room h =
       let p = passes st s (Msg.proposal v k c a t) room h in
       let f = held h.formed in
@@ -57,7 +56,7 @@ module _ {S : Type 0} (g : Ghosts S) where
       let one = peopled st _ p.member in
       let long : length t ≡ 8 * size a = f.3.3.3.3.3.3.0 in (
         (r.0, r.1, f.3.3.3.3.1),
-        record { signed = refl; long = λ b i. tag_at_long (place a b) t (omega (arith, long, place_below a b i)) },
+        λ b i. tag_at_long (place a b) t (omega (arith, long, place_below a b i)),
         omega (arith, many_a, quorum_above (many st) one),
       )
 

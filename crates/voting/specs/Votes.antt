@@ -13,14 +13,13 @@ use Rattle.row.specs.States.{the_set}
 use Rattle.row.specs.Refusals.{answered, hear_refusal}
 use Rattle.row.specs.Effects.{heard_tag, each_board}
 
--- A set is that of a message's signers, and each of them has a tag of eight bytes.
-pub record WholeTags (m : Msg) (a : ℕ) : Type 0 where
-  pub signed : signers m ≡ a
-  pub long : (b : ℕ) → member a b ≡ true → length (tag_of m b) ≡ 8
+-- Each signer of a message has a tag of eight bytes.
+abbrev pub WholeTags : Msg → Type 0
+WholeTags m = (b : ℕ) → member (signers m) b ≡ true → length (tag_of m b) ≡ 8
 
--- The tags that a set has in a message, by board number.
-abbrev pub heard_count : Msg → ℕ → Count
-heard_count m a = record { set = the_set a; tags = each_board (heard_tag m a) }
+-- The tags of the signers of a message, by board number.
+abbrev pub heard_count : Msg → Count
+heard_count m = record { set = the_set (signers m); tags = each_board (heard_tag m (signers m)) }
 
 module _ {S : Type 0} (g : Ghosts S) where
   -- A formed message of the four kinds, of which no reason holds.

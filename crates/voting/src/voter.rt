@@ -2,6 +2,7 @@
 // Words of the contracts: specs/Votes.antt, and specs of crate row, Effects.antt.
 ghost use Rattle.std.specs.Prelude.{◌≡◌};
 ghost use Rattle.wire.specs.Messages.{meaning};
+ghost use Rattle.wire.specs.Acts.{signers};
 ghost use Rattle.row.specs.States.{kept_entry};
 ghost use Rattle.row.specs.Effects.{heard_tag, told_proof};
 ghost use Rattle.voting.specs.Votes.{heard_count, WholeTags};
@@ -9,26 +10,26 @@ ghost use Rattle.voting.specs.Votes.{heard_count, WholeTags};
 use boards::Set;
 use row::row::Row;
 use row::state::{Count, Kept};
-use signed::tag;
+use signed::{signers, tag};
 use std::array;
 use wire::message::{Entry, Message};
 
-// The tag that a board of the set has in a message whose signers the set is; 0 for another board.
-fn heard_tag(m: &Message<'_>, set: Set, board: u8) -> u64
-    requires { WholeTags (meaning m.now) set.bits }
-    ensures { result ≡ heard_tag (meaning m.now) set.bits board }
+// The tag of a signer of a message; 0 for another board.
+fn heard_tag(m: &Message<'_>, board: u8) -> u64
+    requires { WholeTags (meaning m.now) }
+    ensures { result ≡ heard_tag (meaning m.now) (signers (meaning m.now)) board }
 {
     tag(m, board).unwrap_or(0)
 }
 
 // The tags of the signers of a message, by board number.
-pub(crate) fn heard_count(m: &Message<'_>, set: Set) -> Count
-    requires { WholeTags (meaning m.now) set.bits }
-    ensures { result ≡ heard_count (meaning m.now) set.bits }
+pub(crate) fn heard_count(m: &Message<'_>) -> Count
+    requires { WholeTags (meaning m.now) }
+    ensures { result ≡ heard_count (meaning m.now) }
 {
     Count {
-        set,
-        tags: array::from_fn(|board| heard_tag(m, set, board as u8)),
+        set: signers(m),
+        tags: array::from_fn(|board| heard_tag(m, board as u8)),
     }
 }
 

@@ -3,6 +3,7 @@
 ghost use Rattle.std.specs.Prelude.{◌≡◌, ◌-◌, ◌*◌, ◌<◌, ◌≤◌, length, true};
 ghost use Rattle.boards.specs.Boards.{size};
 ghost use Rattle.wire.specs.Messages.{meaning};
+ghost use Rattle.wire.specs.Acts.{signers};
 ghost use Rattle.wire.specs.Format.{Formed};
 ghost use Rattle.checks.specs.Checks.{genuine};
 ghost use Rattle.row.specs.States.{with_floor};
@@ -14,7 +15,6 @@ ghost use Rattle.voting.specs.Votes.{Taken, WholeTags};
 
 use crate::voter::{heard_count, kept_entry, shown};
 use admission::judge;
-use boards::Set;
 use codes::Refusal;
 use refusals::kinds::answered;
 use row::row::Row;
@@ -29,6 +29,8 @@ use words::statement::{Claim, Statement};
 // Row, scheme and bytes stay three parameters: of a struct of three `&mut` each contract would have to name what lies behind every field.
 // Ranks and boards come as the plain numbers of the format: the rules compare them with 0 and with n, and a type would be taken apart
 // at each comparison. So their bounds stand in the contracts.
+// Each vote makes and sends its statement itself. One function of the claim and of what it shows was tried and is no shorter: six parameters,
+// a contract of its own with board, rank, act and proof, and an ack and a ready would have to show that nothing to show has no tags.
 
 // An ack for a change.
 #[tactic(auto, unfolding(row::specs::Rows::keeps))]
@@ -46,7 +48,7 @@ fn ack<S: Scheme>(row: &mut Row, scheme: &mut S, rank: u8, change: u8, out: &mut
     sent
 }
 
-// A ready for a proposal, which is kept with the acks it came with. Its pieces stand beside m: tags are asked of a whole message,
+// A ready for a proposal, which is kept with the acks it came with. Its rank and change stand beside m: tags are asked of a whole message,
 // and only the match that took it apart knows that it is a proposal.
 fn ready<S: Scheme>(
     row: &mut Row,
@@ -54,14 +56,13 @@ fn ready<S: Scheme>(
     m: &Message<'_>,
     rank: u8,
     change: u8,
-    set: Set,
     out: &mut [u8],
 ) -> Sent
     requires able { Able S.Scheme scheme.old out.old }
     requires asked { (1 ≤ rank) × (rank ≤ 8) × (change < 8) }
-    requires whole { WholeTags (meaning m.now) set.bits }
-    requires some { 1 ≤ size set.bits }
-    ensures { Did S.Scheme (keeping row.old.state rank change (meaning m.now) set.bits, readies row.old.state rank change) row.old.state scheme.old out.old result row.new.state scheme.new out.new }
+    requires whole { WholeTags (meaning m.now) }
+    requires some { 1 ≤ size (signers (meaning m.now)) }
+    ensures { Did S.Scheme (keeping row.old.state rank change (meaning m.now) (signers (meaning m.now)), readies row.old.state rank change) row.old.state scheme.old out.old result row.new.state scheme.new out.new }
 {
     let statement = Statement {
         view: row.latest(),
@@ -71,7 +72,7 @@ fn ready<S: Scheme>(
     row.state.voter = Voter {
         floor: 3 * rank - 2,
         kept: Some(Kept { rank, change }),
-        support: heard_count(m, set),
+        support: heard_count(m),
         ..row.state.voter
     };
     sent
@@ -102,12 +103,13 @@ fn accepted<S: Scheme>(row: &mut Row, scheme: &mut S, m: &Message<'_>, out: &mut
 {
     match m.body {
         Body::Suggest { change, .. } => ack(row, scheme, row.view().len(), change, out),
-        Body::Proposal { rank, change, by } => ready(row, scheme, m, rank, change, by.set, out),
+        Body::Proposal { rank, change, .. } => ready(row, scheme, m, rank, change, out),
         Body::Query { rank, .. } => last(row, scheme, rank, out),
         Body::SuggestLast { rank, .. } => {
             let change = called_for(row, lowest_entry(m));
             ack(row, scheme, rank, change, out)
         }
+        // `hear` asked `answered` first, which holds of these four kinds alone.
         _ => unreachable(),
     }
 }

@@ -8,4 +8,4 @@ use Rattle.voting.proofs.voter.heard_tag.Goals as goal
 pub returns : goal.returns
 returns c =
     let fits : IfSome c.tag.result (λ x. x < 2 ^ 64) = search rules in
-    c.unwrap_or.ensures ∙ heard_as (meaning c.args.m.now) c.args.set.bits c.args.board c.tag.result c.requires c.tag.ensures fits
+    c.unwrap_or.ensures ∙ heard_as (meaning c.args.m.now) c.args.board c.tag.result c.requires c.tag.ensures fits

@@ -1,8 +1,9 @@
 -- What each kind asks holds of a message that is taken.
 -- The fields of the message are those of its kind.
-use Rattle.std.proofs.Common.{◌<◌, sym, ap, ◌∙◌, subst}
+use Rattle.std.proofs.Common.{◌<◌, ◌≤◌, sym, ap, ◌∙◌, subst}
 use Rattle.wire.specs.declared.message.Entry.{Entry}
-use Rattle.wire.specs.Acts.{proof_of}
+use Rattle.boards.specs.Boards.{size}
+use Rattle.wire.specs.Acts.{proof_of, signers}
 use Rattle.wire.specs.Messages.{said_in}
 use Rattle.voting.specs.Votes.{WholeTags}
 use Rattle.voting.proofs.Takes.{taken_as, takes_suggest, takes_proposal, takes_query, takes_suggest_last}
@@ -18,10 +19,12 @@ ready-requires-clause-asked g c = (takes_proposal g.S.Scheme _ _ _ _ _ _ _ _ (ta
 pub ready-requires-clause-whole : goal.ready-requires-clause-whole
 ready-requires-clause-whole g c =
     let t = takes_proposal g.S.Scheme _ _ _ _ _ _ _ _ (taken_as g.S.Scheme _ _ _ _ _ _ c.in-Proposal.is c.requires) in
-    subst (λ x. WholeTags (said_in c.args.m.now.view x) c.in-Proposal.by.set.bits) (sym c.in-Proposal.is) t.1
+    subst (λ x. WholeTags (said_in c.args.m.now.view x)) (sym c.in-Proposal.is) t.1
 
 pub ready-requires-clause-some : goal.ready-requires-clause-some
-ready-requires-clause-some g c = (takes_proposal g.S.Scheme _ _ _ _ _ _ _ _ (taken_as g.S.Scheme _ _ _ _ _ _ c.in-Proposal.is c.requires)).2
+ready-requires-clause-some g c =
+    let t = takes_proposal g.S.Scheme _ _ _ _ _ _ _ _ (taken_as g.S.Scheme _ _ _ _ _ _ c.in-Proposal.is c.requires) in
+    subst (λ x. 1 ≤ size (signers (said_in c.args.m.now.view x))) (sym c.in-Proposal.is) t.2
 
 pub last-requires-clause-asked : goal.last-requires-clause-asked
 last-requires-clause-asked g c = takes_query g.S.Scheme _ _ _ _ _ _ _ (taken_as g.S.Scheme _ _ _ _ _ _ c.in-Query.is c.requires)
