@@ -43,6 +43,11 @@ pub(crate) fn audit(keys: &Keys, m: &Message<'_>) -> Audit
 {
     let scheme = Keyed::new(keys);
     let signers = verdict(&scheme, m, Part::Signers);
-    let proof = has_proof(m).then(|| verdict(&scheme, m, Part::Proof));
+    // An `if`: with `then` the proof stays open, since the search does not see the verdict behind the closure (tried).
+    let proof = if has_proof(m) {
+        Some(verdict(&scheme, m, Part::Proof))
+    } else {
+        None
+    };
     Audit { signers, proof }
 }

@@ -107,7 +107,7 @@ pub fn proof(m: &Message<'_>) -> Option<Proof>
     ensures { Proves (meaning m.now) result }
 {
     let boards = proof_by(m).set;
-    if boards.is_empty() {
+    if boards == Set::EMPTY {
         return None;
     }
     let Entry { earlier, change } = lowest_entry(m);
