@@ -28,6 +28,7 @@ fn may_take<S: Scheme>(row: &Row, scheme: &S, m: &Message<'_>, room: usize) -> R
 
 // Why the row does not take the message, or that it does; nothing if the message is not formed or of another layer.
 // So an `Option` of the `Result`: a message that is not of this layer has no answer, and none of the reasons is one against it.
+// An `if`, not `then`, which was tried: the search finds that the call may be made, but not that its answer is the one promised.
 pub fn judge<S: Scheme>(
     row: &Row,
     scheme: &S,

@@ -67,7 +67,7 @@ impl Refusal {
     }
 }
 
-// The number of a code, 1 to 17.
+// The number of a code, 1 to 17. Written out: FORM carries a fault, and a cast gives numbers only where no code carries anything.
 impl From<Refusal> for u8 {
     ghost from_gives = { λ r n. n ≡ number_of r };
 

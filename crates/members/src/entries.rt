@@ -25,7 +25,8 @@ fn differs(low: Entry, entry: Entry) -> bool
     low.earlier != 0 && entry.earlier == low.earlier && entry.change != low.change
 }
 
-// The entry that a statement tells, which only a last does.
+// The entry that a statement tells, which only a last does. `Entry::NONE` for any other, and no `Option`: rank 0 is the entries' own word
+// for none, and passes neither test.
 fn entry_of(statement: Statement<'_>) -> Entry
     ensures { result ≡ entry_of (said statement.entry) }
 {
@@ -50,6 +51,9 @@ fn some_told<F: Fn(Entry) -> bool>(m: &Message<'_>, passes: F) -> bool
     // Over all eight: `entry_by` leaves out who did not sign. A walk over `signers` was tried and proves, but asks that twice, by a longer proof.
     (0..8).any(|board| entry_by(m, board).is_some_and(|entry| passes(entry)))
 }
+
+// Each of the two tests has a function of its own: with the closure in its caller's place, which was tried, the search leaves both callers,
+// `stranger` and `split`, open.
 
 // Whether some board told an entry whose earlier rank is misplaced.
 pub(crate) fn some_misplaced(m: &Message<'_>, rank: u8, n: u8) -> bool

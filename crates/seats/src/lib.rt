@@ -1,4 +1,4 @@
-// Who sits where in a row's latest view: the member of a rank, and the board that an earlier rank calls for.
+// Who sits where in a row's latest view: the member of a rank, and the board that an earlier rank calls for; and a set with one board more.
 // Words of the contracts: specs of crate row, States.antt and Effects.antt.
 #![tactic(auto)]
 
@@ -11,7 +11,8 @@ use boards::Set;
 use row::row::Row;
 use wire::message::Entry;
 
-// The member of a rank, alone; no board for a rank that nobody has.
+// The member of a rank, alone; no board for a rank that nobody has. `Set::EMPTY`, and no `Option`: what is sent goes to a set by the rules,
+// and for a rank past the last it is sent to nobody.
 pub fn seat(row: &Row, rank: u8) -> Set
     ensures { result.bits ≡ only (seat (group row.now.state) rank) }
 {
