@@ -13,13 +13,11 @@ use Rattle.row.specs.declared.state.Stand.TheVariants.{Acks, Readies, Lasts, Don
 use Rattle.row.specs.declared.state.Stand.{Stand}
 use Rattle.row.specs.States.{count_tags}
 use Rattle.counting.specs.declared.counts.Tally.{Tally}
-use Rattle.schemes.specs.declared.Scheme.{Ghosts}
-use Rattle.checks.specs.Checks.{genuine}
-use Rattle.wire.specs.Messages.{Msg, tag_bytes}
+use Rattle.wire.specs.Messages.{Msg, view_of}
 use Rattle.wire.specs.Format.{Formed}
 use Rattle.row.specs.declared.state.State.{State}
 use Rattle.row.specs.declared.state.Sent.{Sent}
-use Rattle.row.specs.Refusals.{hear_refusal}
+use Rattle.row.specs.Refusals.{first_of, fit_reasons}
 use Rattle.row.specs.Effects.{Effect, Outcome}
 use Rattle.row.specs.Calls.{Posted, sent}
 
@@ -68,12 +66,12 @@ certificate (Tally.Ack k c) v n = Msg.proposal v k c n.set.bits (count_tags n)
 certificate (Tally.Ready k c) v n = Msg.change v k c n.set.bits (count_tags n)
 certificate (Tally.Deputy k) v n = Msg.query v k n.set.bits (count_tags n)
 
--- The lone message that is counted: of a view and a speaker, with the tag of a number.
-abbrev pub lone_of : Tally → ℕ → ℕ → ℕ → Msg
-lone_of (Tally.Notify c) v b n = Msg.notify v c b (tag_bytes n)
-lone_of (Tally.Ack k c) v b n = Msg.ack v k c b (tag_bytes n)
-lone_of (Tally.Ready k c) v b n = Msg.ready v k c b (tag_bytes n)
-lone_of (Tally.Deputy k) v b n = Msg.deputy v k b (tag_bytes n)
+-- The lone message that is counted: of a view and a speaker, with a tag.
+abbrev pub lone_of : Tally → ℕ → ℕ → List ℕ → Msg
+lone_of (Tally.Notify c) v b t = Msg.notify v c b t
+lone_of (Tally.Ack k c) v b t = Msg.ack v k c b t
+lone_of (Tally.Ready k c) v b t = Msg.ready v k c b t
+lone_of (Tally.Deputy k) v b t = Msg.deputy v k b t
 
 -- Its rank is 1 to 8, and its change a board.
 abbrev pub InRange : Tally → Type 0
@@ -113,25 +111,31 @@ pub record SpeaksIt (m : Msg) (b : ℕ) : Type 0 where
   pub alone : tag_of m b ≡ own_tag m
   pub long : length (own_tag m) ≡ 8
 
--- The lone kinds of this layer.
-abbrev pub lone_kind : Msg → Bool
-lone_kind (Msg.notify v c b t) = true
-lone_kind (Msg.suggest v c a t) = false
-lone_kind (Msg.ack v k c b t) = true
-lone_kind (Msg.proposal v k c a t) = false
-lone_kind (Msg.ready v k c b t) = true
-lone_kind (Msg.change v k c a t) = false
-lone_kind (Msg.deputy v k b t) = true
-lone_kind (Msg.query v k a t) = false
-lone_kind (Msg.last v k b e p ak) = true
-lone_kind (Msg.suggest_last v k a es p ak) = false
-lone_kind (Msg.init v b n k p t) = false
-lone_kind (Msg.echo v b n k p d t) = false
-lone_kind (Msg.commit v b n k p a t) = false
+-- A message is one to count, from a board.
+pub record Tallied (m : Msg) (t : Tally) (b : ℕ) : Type 0 where
+  pub is : m ≡ lone_of t (view_of m) b (own_tag m)
+  pub range : InRange t
+  pub seated : b < 8
+  pub spoken : SpeaksIt m b
 
-module _ {S : Type 0} (g : Ghosts S) where
-  -- A formed lone message, of which no reason holds.
-  pub record Taken (st : State) (s : S) (m : Msg) (room : ℕ) : Type 0 where
-    pub formed : Formed m
-    pub counts : lone_kind m ≡ true
-    pub unrefused : hear_refusal st m room (genuine (g.good s) m) (g.spent s) ≡ None
+-- The kinds that are counted as they are: notify, ack, ready and deputy.
+abbrev pub counted_kind : Msg → Bool
+counted_kind (Msg.notify v c b t) = true
+counted_kind (Msg.suggest v c a t) = false
+counted_kind (Msg.ack v k c b t) = true
+counted_kind (Msg.proposal v k c a t) = false
+counted_kind (Msg.ready v k c b t) = true
+counted_kind (Msg.change v k c a t) = false
+counted_kind (Msg.deputy v k b t) = true
+counted_kind (Msg.query v k a t) = false
+counted_kind (Msg.last v k b e p ak) = false
+counted_kind (Msg.suggest_last v k a es p ak) = false
+counted_kind (Msg.init v b n k p t) = false
+counted_kind (Msg.echo v b n k p d t) = false
+counted_kind (Msg.commit v b n k p a t) = false
+
+-- A formed message to count, of which no reason holds before the tags are looked at.
+pub record Taken (st : State) (m : Msg) (room : ℕ) : Type 0 where
+  pub formed : Formed m
+  pub counts : counted_kind m ≡ true
+  pub unrefused : first_of (fit_reasons st m room) ≡ None
