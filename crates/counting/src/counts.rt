@@ -16,6 +16,12 @@ use signed::tag;
 use views::view::View;
 use wire::message::{Body, Message};
 
+// Nothing is sent.
+pub(crate) const SILENT: Sent = Sent {
+    to: Set::EMPTY,
+    length: 0,
+};
+
 // A lone message that is counted, but for its speaker and tag.
 #[derive(Clone, Copy)]
 pub(crate) enum Tally {
@@ -122,9 +128,6 @@ pub(crate) fn count(
         post(&certificate, tally.to(&view), out).unwrap()
     } else {
         row.state.leader = leader;
-        Sent {
-            to: Set::EMPTY,
-            length: 0,
-        }
+        SILENT
     }
 }

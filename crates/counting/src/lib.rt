@@ -4,4 +4,5 @@
 
 mod counts;
 pub mod hear;
+mod lasts;
 mod leader;
