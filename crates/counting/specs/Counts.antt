@@ -6,21 +6,19 @@ use Rattle.row.specs.declared.state.Count.{Count}
 use Rattle.row.specs.declared.state.Leader.{Leader}
 use Rattle.row.specs.declared.state.Slot.{Slot}
 use Rattle.row.specs.Rows.{alike, allowed, nothing, tellers, tells, proves}
-use Rattle.boards.specs.Boards.{member}
+use Rattle.boards.specs.Boards.{member, place}
 use Rattle.views.specs.Shares.{share, quorum}
-use Rattle.wire.specs.Acts.{signers, tag_of}
+use Rattle.wire.specs.Acts.{proof_of, signers, tag_at, tag_of}
 use Rattle.row.specs.declared.state.Stand.TheVariants.{Acks, Readies, Lasts, Done}
 use Rattle.row.specs.declared.state.Stand.{Stand}
-use Rattle.row.specs.States.{count_tags}
+use Rattle.row.specs.States.{count_tags, many}
 use Rattle.counting.specs.declared.counts.Tally.{Tally}
-use Rattle.schemes.specs.declared.Scheme.{Ghosts}
-use Rattle.checks.specs.Checks.{genuine}
-use Rattle.wire.specs.Messages.{Msg, tag_bytes}
+use Rattle.wire.specs.Messages.{Msg, stored_replies, view_of}
 use Rattle.wire.specs.Format.{Formed}
 use Rattle.row.specs.declared.state.State.{State}
 use Rattle.row.specs.declared.state.Sent.{Sent}
-use Rattle.row.specs.Refusals.{hear_refusal}
-use Rattle.row.specs.Effects.{Effect, Outcome}
+use Rattle.row.specs.Refusals.{first_of, fit_reasons}
+use Rattle.row.specs.Effects.{Effect, Outcome, called_for, filled, suggests_last}
 use Rattle.row.specs.Calls.{Posted, sent}
 
 -- What goes out of an effect that signs nothing.
@@ -68,12 +66,12 @@ certificate (Tally.Ack k c) v n = Msg.proposal v k c n.set.bits (count_tags n)
 certificate (Tally.Ready k c) v n = Msg.change v k c n.set.bits (count_tags n)
 certificate (Tally.Deputy k) v n = Msg.query v k n.set.bits (count_tags n)
 
--- The lone message that is counted: of a view and a speaker, with the tag of a number.
-abbrev pub lone_of : Tally → ℕ → ℕ → ℕ → Msg
-lone_of (Tally.Notify c) v b n = Msg.notify v c b (tag_bytes n)
-lone_of (Tally.Ack k c) v b n = Msg.ack v k c b (tag_bytes n)
-lone_of (Tally.Ready k c) v b n = Msg.ready v k c b (tag_bytes n)
-lone_of (Tally.Deputy k) v b n = Msg.deputy v k b (tag_bytes n)
+-- The lone message that is counted: of a view and a speaker, with a tag.
+abbrev pub lone_of : Tally → ℕ → ℕ → List ℕ → Msg
+lone_of (Tally.Notify c) v b t = Msg.notify v c b t
+lone_of (Tally.Ack k c) v b t = Msg.ack v k c b t
+lone_of (Tally.Ready k c) v b t = Msg.ready v k c b t
+lone_of (Tally.Deputy k) v b t = Msg.deputy v k b t
 
 -- Its rank is 1 to 8, and its change a board.
 abbrev pub InRange : Tally → Type 0
@@ -113,6 +111,36 @@ pub record SpeaksIt (m : Msg) (b : ℕ) : Type 0 where
   pub alone : tag_of m b ≡ own_tag m
   pub long : length (own_tag m) ≡ 8
 
+-- A message is one to count, from a board.
+pub record Tallied (m : Msg) (t : Tally) (b : ℕ) : Type 0 where
+  pub is : m ≡ lone_of t (view_of m) b (own_tag m)
+  pub range : InRange t
+  pub seated : b < 8
+  pub spoken : SpeaksIt m b
+
+-- A proof is that of a message, and each of its boards has an ack of eight bytes.
+pub record WholeProof (m : Msg) (p : ℕ) : Type 0 where
+  pub shown : (proof_of m).boards ≡ p
+  pub long : (b : ℕ) → member p b ≡ true → length (tag_at (place p b) (proof_of m).acks) ≡ 8
+
+-- A message is a last to count in a state: of a rank and a board, with an entry and a proof.
+pub record Telling (st : State) (m : Msg) (k b : ℕ) (e : Entry) (p : ℕ) : Type 0 where
+  pub range : (1 ≤ k) × (k ≤ 8)
+  pub seated : b < 8
+  pub spoken : SpeaksIt m b
+  pub new : member (tellers st.leader) b ≡ false
+  pub fits : allowed e ≡ true
+  pub shown : alike (nothing e) (p == 0) ≡ true
+  pub whole : WholeProof m p
+
+-- What a leader that counted a last leaves and sends: a suggest-last, once a quorum told.
+abbrev pub tallied_lasts : State → Leader → ℕ → Outcome
+tallied_lasts s l k = filled s l Slot.Last (quorum (many s)) (Acks (called_for s l.lowest)) (suggests_last s l k)
+
+-- The message that asks for an ack of the lowest earlier rank that was told: the counted lasts, and a proof.
+abbrev pub last_certificate : ℕ → ℕ → Leader → Count → Msg
+last_certificate v k l n = Msg.suggest_last v k n.set.bits (stored_replies n.set.bits l.entries n.tags) l.proof.set.bits (count_tags l.proof)
+
 -- The lone kinds of this layer.
 abbrev pub lone_kind : Msg → Bool
 lone_kind (Msg.notify v c b t) = true
@@ -129,9 +157,8 @@ lone_kind (Msg.init v b n k p t) = false
 lone_kind (Msg.echo v b n k p d t) = false
 lone_kind (Msg.commit v b n k p a t) = false
 
-module _ {S : Type 0} (g : Ghosts S) where
-  -- A formed lone message, of which no reason holds.
-  pub record Taken (st : State) (s : S) (m : Msg) (room : ℕ) : Type 0 where
-    pub formed : Formed m
-    pub counts : lone_kind m ≡ true
-    pub unrefused : hear_refusal st m room (genuine (g.good s) m) (g.spent s) ≡ None
+-- A formed message to count, of which no reason holds before the tags are looked at.
+pub record Taken (st : State) (m : Msg) (room : ℕ) : Type 0 where
+  pub formed : Formed m
+  pub counts : lone_kind m ≡ true
+  pub unrefused : first_of (fit_reasons st m room) ≡ None

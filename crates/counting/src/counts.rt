@@ -1,11 +1,10 @@
 // The kinds that a row counts as manager or deputy; a full count goes out as a certificate.
 // Rules: docs/RULES.md, "Changing the group". What each does: `heard` in the specs of crate row, Effects.antt.
-ghost use Rattle.std.specs.Prelude.{◌≡◌, ◌<◌, ◌≤◌, length};
+ghost use Rattle.std.specs.Prelude.{◌≡◌, ◌≤◌, length};
 ghost use Rattle.boards.specs.Boards.{size};
 ghost use Rattle.wire.specs.Messages.{meaning};
 ghost use Rattle.wire.specs.Acts.{tag_number};
-ghost use Rattle.counting.specs.Counts.{Counted, InRange, SpeaksIt, certificate, audience, least, lone_of, own_tag, slot_of, stand_of};
-ghost use Rattle.row.specs.States.{latest};
+ghost use Rattle.counting.specs.Counts.{Counted, SpeaksIt, Tallied, certificate, audience, least, own_tag, slot_of, stand_of};
 ghost use Rattle.row.specs.Effects.{heard};
 
 use crate::leader::gained;
@@ -16,6 +15,12 @@ use sending::post;
 use signed::tag;
 use views::view::View;
 use wire::message::{Body, Message};
+
+// Nothing is sent.
+pub(crate) const SILENT: Sent = Sent {
+    to: Set::EMPTY,
+    length: 0,
+};
 
 // A lone message that is counted, but for its speaker and tag.
 #[derive(Clone, Copy)]
@@ -86,36 +91,43 @@ impl Tally {
     }
 }
 
-// Counts a lone message; once its count is full the leader stands elsewhere, and the certificate goes out.
-fn count(row: &mut Row, tally: Tally, speaker: u8, number: u64, out: &mut [u8]) -> Sent
-    requires range { InRange tally }
-    requires speaker { speaker < 8 }
-    requires room { 128 ≤ length out.old }
-    ensures { Counted (heard row.old.state (lone_of tally (latest row.old.state) speaker number)) out.old result row.new.state out.new }
-{
-    let view = row.view();
-    let leader = gained(&row.state.leader, tally.slot(), speaker, number);
-    let full = leader.at(tally.slot());
-    if full.set.len() == tally.least(&view) {
-        let m = tally.certificate(row.latest(), &full);
-        row.state.leader = Leader {
-            stand: tally.stand(),
-            ..leader
-        };
-        post(&m, tally.to(&view), out).unwrap()
-    } else {
-        row.state.leader = leader;
-        Sent {
-            to: Set::EMPTY,
-            length: 0,
-        }
-    }
-}
-
 // The tag of a message's speaker.
-fn own_tag(m: &Message<'_>, speaker: u8) -> u64
+pub(crate) fn own_tag(m: &Message<'_>, speaker: u8) -> u64
     requires { SpeaksIt (meaning m.now) speaker }
     ensures { result ≡ tag_number (own_tag (meaning m.now)) }
 {
     tag(m, speaker).unwrap()
+}
+
+// Counts a lone message; once its count is full the leader stands elsewhere, and the certificate goes out.
+pub(crate) fn count(
+    row: &mut Row,
+    m: &Message<'_>,
+    tally: Tally,
+    speaker: u8,
+    out: &mut [u8],
+) -> Sent
+    requires tallied { Tallied (meaning m.now) tally speaker }
+    requires room { 128 ≤ length out.old }
+    ensures { Counted (heard row.old.state (meaning m.now)) out.old result row.new.state out.new }
+{
+    let view = row.view();
+    let leader = gained(
+        &row.state.leader,
+        tally.slot(),
+        speaker,
+        own_tag(m, speaker),
+    );
+    let full = leader.at(tally.slot());
+    if full.set.len() == tally.least(&view) {
+        let certificate = tally.certificate(row.latest(), &full);
+        row.state.leader = Leader {
+            stand: tally.stand(),
+            ..leader
+        };
+        post(&certificate, tally.to(&view), out).unwrap()
+    } else {
+        row.state.leader = leader;
+        SILENT
+    }
 }

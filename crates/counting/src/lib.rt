@@ -2,5 +2,7 @@
 // Rules: docs/RULES.md, "Changing the group". Formal text: specs of crate row, Effects.antt.
 #![tactic(auto)]
 
-pub mod counts;
+mod counts;
+pub mod hear;
+mod lasts;
 mod leader;
