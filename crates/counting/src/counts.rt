@@ -22,7 +22,8 @@ pub(crate) const SILENT: Sent = Sent {
     length: 0,
 };
 
-// A lone message that is counted, but for its speaker and tag.
+// A lone message that is counted, but for its speaker and tag. Not a `Claim`, of whose seven kinds three are not counted here:
+// each method would have an arm that cannot be met.
 #[derive(Clone, Copy)]
 pub(crate) enum Tally {
     Notify { change: u8 },
