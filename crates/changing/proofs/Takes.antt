@@ -43,7 +43,8 @@ module _ {S : Type 0} (g : Ghosts S) where
   goes_on st s v x y room r u e o j =
       subst (λ z. Taken st s (said_in v z) room) e (record { formed = j.0; unrefused = unless_ok _ r u o j.2 })
 
-  pub has_room : (st : State) (s : S) (v k c a : ℕ) (t : List ℕ) (room : ℕ) → Taken st s (Msg.change v k c a t) room → length (form (Msg.change v k c a t)) ≤ room
+  pub has_room : (st : State) (s : S) (v k c a : ℕ) (t : List ℕ) (room : ℕ) → Taken st s (Msg.change v k c a t) room
+      → length (form (Msg.change v k c a t)) ≤ room
   has_room st s v k c a t room h =
       let p = passes st s (Msg.change v k c a t) room h in
       let long : length t ≡ 8 * size a = (held h.formed).3.3.3.3.3.3.0 in

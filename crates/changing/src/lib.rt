@@ -95,6 +95,7 @@ pub fn hear<S: Scheme>(
         return None;
     };
     match judge(row, scheme, m, out.len())? {
+        // Passed on first: the old view says to whom, and the next row has forgotten it.
         Ok(()) => {
             let sent = pass_on(row, m, out);
             *row = next(row, change);

@@ -14,4 +14,5 @@ pass_on-sent-requires-clause-room g c =
 pub next-requires : goal.next-requires
 next-requires g c =
     let w = c.args.row.now in
-    opens g.S.Scheme _ _ _ _ _ _ _ _ w.sound (goes_on g.S.Scheme w.state c.args.scheme.now _ _ _ _ _ _ c.in-Change.is c.in-Ok.is c.in_ok-judge.ensures)
+    let h = goes_on g.S.Scheme w.state c.args.scheme.now _ _ _ _ _ _ c.in-Change.is c.in-Ok.is c.in_ok-judge.ensures in
+    opens g.S.Scheme _ _ _ _ _ _ _ _ w.sound h

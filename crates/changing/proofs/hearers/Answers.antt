@@ -25,10 +25,13 @@ is_hearer-requires c = omega (arith, c.in_ok-own.ensures.1, place_below c.view-v
 
 pub loop-board-preserved : goal.loop-board-preserved
 loop-board-preserved c =
-    let P = passed_on c.args.row.now.state in
-    let n = c.loop-board.board in
-    let told = c.is_hearer.ensures c.args.row.now.state (sym c.view-view.ensures) (sym (c.in_ok-own.ensures.1 ∙ (λ i. place (c.view-view.ensures i) (c.board.ensures.is i) + 1))) in
+    let st = c.args.row.now.state in
+    let before = c.loop-board in
+    let rank = sym (c.in_ok-own.ensures.1 ∙ (λ i. place (c.view-view.ensures i) (c.board.ensures.is i) + 1)) in
+    let told = sym (c.is_hearer.ensures st (sym c.view-view.ensures) rank) in
+    let put_in = put (passed_on st) before.board before.to.bits in
+    let left_out = left (passed_on st) before.board before.to.bits in
     elim c.if-is_hearer.branch [
-      | then-is_hearer w ↦ put P n c.loop-board.to.bits _ c.loop-board.invariant (sym told ∙ w.if-is_hearer.true) (ap (λ (x : Set). x.bits) w.to-is ∙ w.insert-to.ensures)
-      | else-is_hearer w ↦ left P n c.loop-board.to.bits _ c.loop-board.invariant (sym told ∙ w.if-is_hearer.false) (ap (λ (x : Set). x.bits) w.to-is)
+      | then-is_hearer w ↦ put_in _ before.invariant (told ∙ w.if-is_hearer.true) (ap (λ (x : Set). x.bits) w.to-is ∙ w.insert-to.ensures)
+      | else-is_hearer w ↦ left_out _ before.invariant (told ∙ w.if-is_hearer.false) (ap (λ (x : Set). x.bits) w.to-is)
     ]
