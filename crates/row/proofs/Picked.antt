@@ -1,6 +1,6 @@
 -- Sets that are put together of boards, who holds a rank, and sets within others, in the words of members.
 -- Only this file opens `insert` and `set_of`.
-use Rattle.std.proofs.Common.{◌≡◌, ℕ, zero, suc, ◌+◌, ◌^◌, ◌<◌, ◌≤◌, Bool, true, false, cond, not, ◌&&◌, ◌||◌, eqb, ltb, Some, None, Decides, sym, refl, ap, ◌∙◌, ⊎_elim, div-le_self, arith}
+use Rattle.std.proofs.Common.{◌≡◌, ℕ, zero, suc, ◌+◌, ◌^◌, ◌<◌, ◌≤◌, Bool, true, false, cond, not, ◌&&◌, ◌||◌, eqb, ltb, Some, None, Decides, sym, refl, ap, ◌∙◌, ⊎_elim, add-one, div-le_self, arith}
 use lib.Bits.{bit_or}
 use Rattle.std.proofs.lemmas.Nat.{or_lt}
 use Rattle.std.proofs.lemmas.Bool.{and_from, and_left, and_right, and_parts, both_ways, cases_Bool, cases_eq, cases_lt, eq-eqb, eqb-true, lt-ltb, le-ltb, ne_eqb, not_from_true, not_from_false, not-false}
@@ -68,6 +68,15 @@ set_of_below P (suc n) k hn hk =
     (cases_eq k n) in
     let pick : (b : Bool) → P n ≡ b → Goal b = λ b. elim b as (λ v. P n ≡ v → Goal v) [ true ↦ put | false ↦ left ] in
     pick (P n) refl
+
+-- Below 0 no board is picked; below n + 1 board n is put in where it passes.
+pub set_of_first : (P : ℕ → Bool) → set_of P 0 ≡ 0
+unfolding set_of
+set_of_first P = refl
+
+pub set_of_next : (P : ℕ → Bool) (n : ℕ) → set_of P (n + 1) ≡ cond (P n) (insert (set_of P n) n) (set_of P n)
+unfolding set_of insert
+set_of_next P n = ap (set_of P) (add-one n)
 
 pub member_set_of : (P : ℕ → Bool) (k : ℕ) → k < 8 → member (set_of P 8) k ≡ P k
 member_set_of P k h = set_of_below P 8 k (omega arith) h ∙ ap (λ t. t && P k) (lt-ltb k 8 h)

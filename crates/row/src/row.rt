@@ -98,7 +98,7 @@ impl Row {
     }
 
     // Its views: the state has them as plain values, so that specs and proofs compare states whole; the row knows that they are sound.
-    fn views(&self) -> Views
+    pub fn views(&self) -> Views
         ensures { result.history ≡ self.now.state.views }
     {
         Views {
