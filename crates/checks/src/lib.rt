@@ -17,6 +17,7 @@ use words::statement::Statement;
 
 // The two parts of a message that have tags: its signers', and those of the proof that lasts and suggest-lasts carry.
 // An enum, not a closure: which boards, which statement and which tag go together, and every check below is said once for both parts.
+// Message and part stay two parameters: a struct of both would be one more name for each clause to see through.
 #[derive(Clone, Copy, Debug, PartialEq, Eq)]
 pub enum Part {
     Signers,

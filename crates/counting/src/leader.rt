@@ -10,7 +10,7 @@ use row::state::{Count, Leader, Slot};
 use seats::insert;
 use wire::message::Entry;
 
-// The count with one board more, and its tag.
+// The count with one board more, and its tag. Board and tag stay two: a struct of both would be made of a message only to be taken apart here.
 // Places are cast by `as` in this file: `usize::from` is no plainer, and one more fact to cite in each proof.
 fn counted(count: &Count, board: u8, tag: u64) -> Count
     requires { board < 8 }

@@ -11,6 +11,7 @@ use wire::kind::Kind;
 use wire::message::{Content, Entry, Sort};
 
 // Kind and view; two parameters, as a struct of both would be made at each call only to be taken apart here.
+// Four bits, and not the field `KIND`: which kinds there are is said by each table.
 fn opening(kind: Kind, view: u8) -> Option<Head>
     ensures { Opened (kind_number kind) view result }
 {

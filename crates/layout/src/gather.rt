@@ -16,6 +16,7 @@ pub(crate) fn gather<'a>(replies: Replies<'a>) -> Option<Gathered<'a>>
     if !even(replies) {
         return None;
     }
+    // Over all eight boards: for one outside the set `reply` answers none, and then the walk goes on, which no `map` of the reply says.
     let top = (0..8).try_fold(0u8, |top, board| match reply(replies, board) {
         Some((entry, _)) => allowed(entry).then_some(top.max(entry.earlier)),
         None => Some(top),

@@ -15,6 +15,7 @@ pub struct Gathered<'a> {
 }
 
 // What stands between the head and the last set: a payload, the tag of a last, or the entries of a suggest-last.
+// `Nothing` is one more case and no `Option` around three: it has bytes as they have, none.
 #[derive(Clone, Copy)]
 pub enum Middle<'a> {
     Nothing,

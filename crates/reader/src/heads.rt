@@ -7,6 +7,7 @@ use wire::field::{CHANGE, Field, NUMBER, RANK, SENDER, SORT, ZERO, ZEROS};
 use wire::message::{Content, Sort};
 
 // What kinds 3 to 6 speak of.
+// A struct and no pair, whose halves are of one type; what a row keeps of a proposal is the row's, a layer above.
 #[derive(Clone, Copy)]
 pub struct Graded {
     pub rank: u8,

@@ -17,6 +17,7 @@ pub struct Count {
 }
 
 impl Count {
+    // A constant, which a `Default` is not.
     pub const NONE: Count = Count {
         set: Set::EMPTY,
         tags: [0; 8],
@@ -102,6 +103,7 @@ pub struct Voter {
 // What the row counts as manager or deputy, slot by slot: a table, not five fields, since the five counting kinds share one rule;
 // the entries of the lasts by board number; the lowest earlier rank among them, and the proof that was first heard with it.
 // Entries stand beside the counts, not in them: the five kinds share one `Count`, and only lasts tell entries.
+// That nothing is told yet is rank 0 of `lowest`, the entries' own word for none.
 #[derive(Clone, Copy)]
 pub struct Leader {
     pub stand: Stand,

@@ -32,7 +32,7 @@ pub fn called_for(row: &Row, low: Entry) -> u8
 }
 
 // A set with one board more. Not `Set::with` at each place, which is no plainer: that says of each board whether it is in the set,
-// the rules speak of the byte, and this one place turns the one into the other.
+// the rules speak of the byte, and this one place turns the one into the other; a clause on `with` would open what crate `boards` hides.
 pub fn insert(set: Set, board: u8) -> Set
     ensures { result.bits ≡ insert set.bits board }
 {

@@ -73,6 +73,7 @@ fn signed<S: Scheme>(scheme: &mut S, board: u8, statement: &Statement<'_>) -> Op
 }
 
 // Signs a statement and writes its lone message; none if the board cannot, and then nothing changes. An `Option`, as in `post`.
+// Its six parameters are what the call takes; `say` below leaves out what is shown.
 pub fn speak<'a, S: Scheme>(
     scheme: &mut S,
     board: u8,

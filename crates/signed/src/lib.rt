@@ -71,6 +71,7 @@ pub fn statement<'a>(m: &Message<'a>, board: u8) -> Option<Statement<'a>>
 }
 
 // The board's tag in a message; none for a board that is not among the signers, or whose tag is not eight bytes.
+// The kinds stand here as in `signers`: a set of boards does not tell where their tags lie.
 pub fn tag(m: &Message<'_>, board: u8) -> Option<u64>
     ensures { SignerTagged (meaning m.now) board result }
 {
@@ -128,7 +129,7 @@ pub fn proof_tag(m: &Message<'_>, board: u8) -> Option<u64>
     tag_by(proof_by(m), board)
 }
 
-// The boards of a message's proof with their tags; no board if there is no proof.
+// The boards of a message's proof with their tags; no board if there is no proof. No `Option`: who asks for a board's tag asks for a board first.
 fn proof_by<'a>(m: &Message<'a>) -> Tagged<'a>
     ensures { ProofLies (meaning m.now) result }
 {

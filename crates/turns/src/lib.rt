@@ -61,7 +61,7 @@ fn counted_already(row: &Row, slot: Slot, board: u8) -> bool
     row.state.leader.at(slot).set.has(board)
 }
 
-// KNOWN: the speaker is counted already.
+// KNOWN: the speaker is counted already. Where the message is counted stands here; crate `counting`, above, has it by what it counts.
 pub fn known(row: &Row, m: &Message<'_>) -> bool
     ensures { result ≡ known row.now.state (meaning m.now) }
 {

@@ -48,7 +48,7 @@ impl Views {
         self.history.latest
     }
 
-    // The members of the v-th view; no boards unless v is 1 to the latest.
+    // The members of the v-th view; no boards unless v is 1 to the latest, since by the rules the answer is a set.
     // Places are cast by `as` in this file, not `usize::from`, which the proof of the recursion does not see through (tried).
     // It calls itself for the view before: by the rules of the project a view is told by the one before it and their change.
     pub fn members(&self, v: u8) -> Set

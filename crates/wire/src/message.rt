@@ -60,7 +60,7 @@ pub struct Entry {
 }
 
 impl Entry {
-    // No proposal kept.
+    // No proposal kept. A constant, which a `Default` is not.
     pub const NONE: Entry = Entry {
         earlier: 0,
         change: 0,

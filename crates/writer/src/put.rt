@@ -111,6 +111,7 @@ impl<'b> Cursor<'b> {
         let replies = gathered.replies;
         let boards = replies.set.boards();
         for (entry, tags) in boards.filter_map(|board| reply(replies, board)) {
+            // The tag is one board's, heard or stored: where it lies beside the set makes no difference to its bytes.
             let own = Tagged {
                 set: replies.set,
                 tags,

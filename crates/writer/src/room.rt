@@ -28,7 +28,7 @@ fn of_middle(middle: Middle<'_>) -> usize
     }
 }
 
-// The bytes of the tags of a set.
+// The bytes of the tags of a set. `layout::measure::fits` compares the same numbers, but has to know of heard tags that they are bytes too.
 fn of_tags(by: Tagged<'_>) -> usize
     ensures { result ≡ length (tags_by by.entry) }
 {
