@@ -46,6 +46,7 @@ fn hearers(row: &Row) -> Option<Set>
 {
     let view = row.view();
     let own = view.rank(row.board())?;
+    // A `for` with an `if`: `insert` speaks of the byte, and its laws build the set board by board; a chain would add one more list between.
     let mut to = Set::EMPTY;
     for board in 0..8 {
         if is_hearer(&view, own, board) {
@@ -91,9 +92,11 @@ pub fn hear<S: Scheme>(
 ) -> Option<Result<Sent, Refusal>>
     ensures { HeardIf S.Scheme is_change row.old.state scheme.now (meaning m.now) out.old result row.new.state scheme.now out.new }
 {
+    // An `else`: a message of another kind is no error that `?` could pass on.
     let Body::Change { change, .. } = m.body else {
         return None;
     };
+    // A match, not `Result::map`: what a closure that it does not call leaves of its captures is not known.
     match judge(row, scheme, m, out.len())? {
         // Passed on first: the old view says to whom, and the next row has forgotten it.
         Ok(()) => {

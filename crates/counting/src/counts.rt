@@ -33,7 +33,7 @@ pub(crate) enum Tally {
 }
 
 impl Tally {
-    // Where it is counted.
+    // Where it is counted. `turns` says it too, of a message that it tests: that crate stands below, and a tally is what is counted here.
     fn slot(self) -> Slot
         ensures { result ≡ slot_of self }
     {

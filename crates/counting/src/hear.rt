@@ -68,12 +68,14 @@ fn accepted(row: &mut Row, m: &Message<'_>, out: &mut [u8]) -> Sent
             );
             last(row, rank, leader, out)
         }
+        // `hear` has asked for the five kinds before.
         _ => unreachable(),
     }
 }
 
 // Hears a notify, an ack, a ready, a deputy or a last; any other message, and a value that no bytes spell, has no answer here.
 // The scheme is only asked whether tags are good: a certificate is made of tags that the row has.
+// An `Option` of the `Result`: no answer is neither a reason against the message nor something sent.
 pub fn hear<S: Scheme>(
     row: &mut Row,
     scheme: &S,

@@ -60,6 +60,7 @@ impl<'a> Whole<'a> {
     {
         let reader = self.reader;
         if reader.byte < reader.src.len() {
+            // Written out, as the reader's two other faults are: a call would be no shorter than the value.
             return Err(Fault {
                 layer: Layer::Bytes,
                 place: reader.byte,

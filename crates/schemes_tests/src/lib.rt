@@ -33,6 +33,7 @@ mod tests {
 
     #[test]
     fn keyed_counts(rt: HostRuntime) -> Result<(), Fail> {
+        // Written out in both crates of tests: a call would be no shorter than the value.
         let keys = [
             [7; 16], [6; 16], [5; 16], [4; 16], [3; 16], [2; 16], [1; 16], [0; 16],
         ];

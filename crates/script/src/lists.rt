@@ -126,6 +126,7 @@ impl Text for TagsOf<'_> {
         match self.0.entries {
             Entries::Heard(bytes) => commas(line, bytes.chunks(9).map(|reply| Hex(&reply[1..]))),
             Entries::Stored { tags, .. } => {
+                // Written out: a call would be no shorter than the value.
                 let tagged = Tagged {
                     set: self.0.set,
                     tags: Tags::Stored(tags),

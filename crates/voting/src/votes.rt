@@ -29,6 +29,7 @@ use words::statement::{Claim, Statement};
 // Row, scheme and bytes stay three parameters: of a struct of three `&mut` each contract would have to name what lies behind every field.
 // Ranks and boards come as the plain numbers of the format: the rules compare them with 0 and with n, and a type would be taken apart
 // at each comparison. So their bounds stand in the contracts.
+// Floors are written out in each vote (`3 * rank - k`): a call would be no shorter than the value.
 // Each vote makes and sends its statement itself. One function of the claim and of what it shows was tried and is no shorter: six parameters,
 // a contract of its own with board, rank, act and proof, and an ack and a ready would have to show that nothing to show has no tags.
 
