@@ -1,13 +1,19 @@
 // The calls at a row: each answers the first reason against it and changes nothing, or does what the rules say.
 // Rules: docs/RULES.md, "Changing the group". What each call promises: specs of crate row, Calls.antt.
-ghost use Rattle.row.specs.Calls.{AsksOut, AsksIn};
+ghost use Rattle.wire.specs.Messages.{meaning};
+ghost use Rattle.std.specs.Prelude.{◌≡◌};
+ghost use Rattle.changing.specs.Changes.{is_change};
+ghost use Rattle.row.specs.Calls.{AsksOut, AsksIn, HeardAny};
 
 use crate::asks::{asked_out, notify};
 use codes::Refusal;
 use refusals::first::{may_ask_in, may_ask_out};
+use refusals::kinds::answered;
 use row::row::Row;
 use row::state::Sent;
 use schemes::Scheme;
+use voting::votes;
+use wire::message::{Body, Message};
 
 // Row, scheme and bytes stay three parameters, as in crate `voting`: a struct of three `&mut` would make each contract longer.
 
@@ -36,4 +42,30 @@ pub fn ask_in<S: Scheme>(
 {
     may_ask_in(row, c, delivery, out.len(), scheme.is_spent())?;
     Ok(notify(row, scheme, c, out))
+}
+
+// Whether a message is a change.
+fn is_change(m: &Message<'_>) -> bool
+    ensures { result ≡ is_change (meaning m.now) }
+{
+    matches!(m.body, Body::Change { .. })
+}
+
+// Hears a message of kinds 1 to 10; one of another layer, and a value that no bytes spell, has no answer here and changes nothing.
+// So an `Option` of the `Result`: no answer is neither a reason against the message nor something sent.
+pub fn hear<S: Scheme>(
+    row: &mut Row,
+    scheme: &mut S,
+    m: &Message<'_>,
+    out: &mut [u8],
+) -> Option<Result<Sent, Refusal>>
+    ensures { HeardAny S.Scheme row.old.state scheme.old (meaning m.now) out.old result row.new.state scheme.new out.new }
+{
+    if answered(m) {
+        votes::hear(row, scheme, m, out)
+    } else if is_change(m) {
+        changing::hear(row, scheme, m, out)
+    } else {
+        counting::hear::hear(row, scheme, m, out)
+    }
 }
