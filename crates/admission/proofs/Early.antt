@@ -1,10 +1,14 @@
 -- A reason that comes before TAG and SPENT is the first one whatever the tags and the scheme are; where there is none, tags and scheme decide.
 -- Of a message that is taken no reason holds.
-use Rattle.std.proofs.Common.{◌≡◌, ℕ, Bool, true, false, cond, not, ◌&&◌, List, [], ◌∷◌, ◌++◌, Some, None, Option, refl}
+use Rattle.std.proofs.Common.{◌≡◌, ℕ, Bool, true, false, cond, not, ◌&&◌, List, [], ◌∷◌, ◌++◌, Some, None, Option, refl, subst}
 use Rattle.codes.specs.declared.Refusal.{Refusal}
 use Rattle.codes.specs.declared.Refusal.TheVariants.{Out, View, Member, Change, Turn, Late, Known, Size, Split, Tag, Spent}
-use Rattle.wire.specs.Messages.{Msg}
+use Rattle.schemes.specs.declared.Scheme.{Ghosts}
+use Rattle.checks.specs.Checks.{genuine}
+use Rattle.wire.specs.declared.message.Body.{Body}
+use Rattle.wire.specs.Messages.{Msg, said_in}
 use Rattle.row.specs.declared.state.State.{State}
+use Rattle.admission.specs.Judged.{Taken}
 use Rattle.row.specs.Refusals.{first_of, short, other_view, stranger, barred, untimely, late, known, misfit, split, answered, hear_refusal}
 
 -- Of two lists of reasons the second is asked where no reason of the first holds.
@@ -63,3 +67,11 @@ passed s m room genuine spent h =
       good = p9.0;
       unspent = p10.0;
     }
+
+module _ {S : Type 0} (g : Ghosts S) where
+  pub passes : (st : State) (s : S) (m : Msg) (room : ℕ) → Taken g st s m room → Passed st m room (genuine (g.good s) m) (g.spent s)
+  passes st s m room t = passed st m room (genuine (g.good s) m) (g.spent s) t.unrefused
+
+  -- A message that is taken is taken by any name of its body.
+  pub taken_as : (st : State) (s : S) (v : ℕ) (x y : Body) (room : ℕ) → x ≡ y → Taken g st s (said_in v x) room → Taken g st s (said_in v y) room
+  taken_as st s v x y room e t = subst (λ z. Taken g st s (said_in v z) room) e t

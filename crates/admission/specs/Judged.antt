@@ -10,6 +10,11 @@ use Rattle.row.specs.declared.state.State.{State}
 use Rattle.row.specs.Refusals.{hear_refusal, of_group, Unless}
 
 module _ {S : Type 0} (g : Ghosts S) where
+  -- A message that a row takes: it is formed, and no reason holds.
+  pub record Taken (st : State) (s : S) (m : Msg) (room : ℕ) : Type 0 where
+    pub formed : Formed m
+    pub unrefused : hear_refusal st m room (genuine (g.good s) m) (g.spent s) ≡ None
+
   -- A formed message of kinds 1 to 10 goes on or is refused for the first reason that holds; any other message has no answer.
   abbrev pub Judged : State → S → Msg → ℕ → Option (Result (Unit {0}) Refusal) → Type 0
   Judged st s m room None = Formed m → of_group m ≢ true

@@ -17,8 +17,8 @@ use Rattle.wire.proofs.Widths.{length_form}
 use Rattle.row.specs.declared.state.State.{State}
 use Rattle.row.specs.States.{latest_members, latest, group, many}
 use Rattle.row.specs.Refusals.{empties, hear_refusal, Unless}
-use Rattle.admission.specs.Judged.{Judged}
-use Rattle.admission.proofs.Early.{Passed, passed}
+use Rattle.admission.specs.Judged.{Judged, Taken}
+use Rattle.admission.proofs.Early.{passes, taken_as}
 
 -- Where no reason stands there is none.
 unless_ok : (why : Option Refusal) (r : Result (Unit {0}) Refusal) (u : Unit {0}) → r ≡ Ok u → Unless why r → why ≡ None
@@ -29,31 +29,23 @@ and_one : (x y : Bool) → x ≡ true → (x && y) ≡ false → y ≡ false
 and_one x y e h = cc
 
 module _ {S : Type 0} (g : Ghosts S) where
-  -- A message that a row takes is formed, and no reason holds.
-  pub record Taken (st : State) (s : S) (m : Msg) (room : ℕ) : Type 0 where
-    pub formed : Formed m
-    pub unrefused : hear_refusal st m room (genuine (g.good s) m) (g.spent s) ≡ None
-
-  passes : (st : State) (s : S) (m : Msg) (room : ℕ) → Taken st s m room → Passed st m room (genuine (g.good s) m) (g.spent s)
-  passes st s m room t = passed st m room (genuine (g.good s) m) (g.spent s) t.unrefused
-
   -- A message that is judged to go on is taken, by any name of its body.
   pub goes_on : (st : State) (s : S) (v : ℕ) (x y : Body) (room : ℕ) (r : Result (Unit {0}) Refusal) (u : Unit {0})
-      → x ≡ y → r ≡ Ok u → Judged g st s (said_in v x) room (Some r) → Taken st s (said_in v y) room
+      → x ≡ y → r ≡ Ok u → Judged g st s (said_in v x) room (Some r) → Taken g st s (said_in v y) room
   goes_on st s v x y room r u e o j =
-      subst (λ z. Taken st s (said_in v z) room) e (record { formed = j.0; unrefused = unless_ok _ r u o j.2 })
+      taken_as g st s v x y room e (record { formed = j.0; unrefused = unless_ok _ r u o j.2 })
 
-  pub has_room : (st : State) (s : S) (v k c a : ℕ) (t : List ℕ) (room : ℕ) → Taken st s (Msg.change v k c a t) room
+  pub has_room : (st : State) (s : S) (v k c a : ℕ) (t : List ℕ) (room : ℕ) → Taken g st s (Msg.change v k c a t) room
       → length (form (Msg.change v k c a t)) ≤ room
   has_room st s v k c a t room h =
-      let p = passes st s (Msg.change v k c a t) room h in
+      let p = passes g st s (Msg.change v k c a t) room h in
       let long : length t ≡ 8 * size a = (held h.formed).3.3.3.3.3.3.0 in
       omega (arith, length_form (Msg.change v k c a t), long, size_le a, ltb-false room 128 p.roomy)
 
-  pub opens : (st : State) (s : S) (v k c a : ℕ) (t : List ℕ) (room : ℕ) → Sound st.views → Taken st s (Msg.change v k c a t) room → Open st.views c
+  pub opens : (st : State) (s : S) (v k c a : ℕ) (t : List ℕ) (room : ℕ) → Sound st.views → Taken g st s (Msg.change v k c a t) room → Open st.views c
   unfolding latest_members
   opens st s v k c a t room sound h =
-      let p = passes st s (Msg.change v k c a t) room h in
+      let p = passes g st s (Msg.change v k c a t) room h in
       let free = or_parts (leb 64 (latest st)) (empties st c) p.unbarred in
       let board = (held h.formed).3.3.3.3.1 in
       let some = sound.peopled st.views.latest sound.counted.2 (omega arith) in

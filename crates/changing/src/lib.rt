@@ -21,7 +21,7 @@ use row::row::Row;
 use row::state::Sent;
 use schemes::Scheme;
 use seats::insert;
-use sending::post;
+use sending::{NOTHING, post};
 use views::view::View;
 use wire::message::{Body, Message};
 
@@ -65,10 +65,7 @@ fn pass_on(row: &Row, m: &Message<'_>, out: &mut [u8]) -> Sent
 {
     match hearers(row) {
         Some(to) => post(m, to, out).unwrap(),
-        None => Sent {
-            to: Set::EMPTY,
-            length: 0,
-        },
+        None => NOTHING,
     }
 }
 

@@ -23,9 +23,10 @@ use Rattle.row.specs.Refusals.{first_of, fit_reasons, seal_reasons}
 use Rattle.row.specs.Rows.{alike, allowed, tellers}
 use Rattle.row.proofs.Held.{allowed_from}
 use Rattle.admission.proofs.Early.{passed, then}
+use Rattle.admission.proofs.Tags.{tag_or_zero}
 use Rattle.counting.specs.declared.counts.Tally.{Tally}
 use Rattle.signed.specs.Signed.{ProofTagged}
-use Rattle.sending.proofs.Numbers.{number_is, tag_at_long}
+use Rattle.sending.proofs.Numbers.{tag_at_long}
 use Rattle.counting.specs.Counts.{Taken, Tallied, Telling, WholeProof}
 
 itself : (b : ℕ) → b < 8 → member (only b) b ≡ true
@@ -71,15 +72,8 @@ tally_deputy v k b t f =
 -- A board's ack in a proof is the number of its bytes; another board has none.
 pub ack_as : (m : Msg) (p b : ℕ) (o : Option ℕ) → WholeProof m p → ProofTagged m b o → IfSome o (λ x. x < 2 ^ 64)
     → unwrap_or o 0 ≡ cond (member p b) (tag_number (tag_at (place p b) (proof_of m).acks)) 0
-ack_as m p b (Some x) w t fits =
-    let same = sym w.shown in
-    let at = λ (s : ℕ). tag_at (place s b) (proof_of m).acks in
-    sym (cond-true (member p b) (tag_number (at p)) 0 (ap (λ s. member s b) same ∙ t.0) ∙ number_is x (at p) fits (t.1 ∙ ap at w.shown))
-ack_as m p b None w t fits =
-    let out : member p b ≡ false =
-    ⊎_elim (λ f. ap (λ s. member s b) (sym w.shown) ∙ f)
-    (λ short. ⊎_elim (λ i. absurd (short (ap (λ s. length (tag_at (place s b) (proof_of m).acks)) w.shown ∙ w.long b i))) (λ no. no) (cases_Bool (member p b))) t in
-    sym (cond-false (member p b) (tag_number (tag_at (place p b) (proof_of m).acks)) 0 out)
+ack_as m p b o w t fits =
+    subst (λ s. unwrap_or o 0 ≡ cond (member s b) (tag_number (tag_at (place s b) (proof_of m).acks)) 0) w.shown (tag_or_zero _ b _ o (w.long b) t fits)
 
 -- An entry that the format allows is one that every leader may keep.
 fits_entry : (e : Entry) → from_to 0 8 e.earlier ≡ true → e.change < 8 → from_to 0 (cond (eqb e.earlier 0) 0 7) e.change ≡ true → allowed e ≡ true

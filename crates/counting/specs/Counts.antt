@@ -1,6 +1,6 @@
 -- What a row does that counts a lone message: the next state, and what goes out; nothing is signed.
 -- The whole of each kind is `heard` of crate row.
-use Rattle.std.specs.Prelude.{◌≡◌, ℕ, ◌+◌, ◌<◌, ◌≤◌, Bool, true, false, List, [], length, None, ◌==◌}
+use Rattle.std.specs.Prelude.{◌≡◌, ℕ, ◌+◌, ◌<◌, ◌≤◌, Bool, true, false, ◌&&◌, List, [], length, None, ◌==◌}
 use Rattle.wire.specs.declared.message.Entry.{Entry}
 use Rattle.row.specs.declared.state.Count.{Count}
 use Rattle.row.specs.declared.state.Leader.{Leader}
@@ -8,16 +8,16 @@ use Rattle.row.specs.declared.state.Slot.{Slot}
 use Rattle.row.specs.Rows.{alike, allowed, nothing, tellers, tells, proves}
 use Rattle.boards.specs.Boards.{member, place}
 use Rattle.views.specs.Shares.{share, quorum}
-use Rattle.wire.specs.Acts.{proof_of, signers, tag_at, tag_of}
+use Rattle.wire.specs.Acts.{lone_kind, proof_of, signers, tag_at, tag_of}
 use Rattle.row.specs.declared.state.Stand.TheVariants.{Acks, Readies, Lasts, Done}
 use Rattle.row.specs.declared.state.Stand.{Stand}
 use Rattle.row.specs.States.{count_tags, many}
 use Rattle.counting.specs.declared.counts.Tally.{Tally}
-use Rattle.wire.specs.Messages.{Msg, stored_replies, view_of}
+use Rattle.wire.specs.Messages.{Msg, kind, stored_replies, view_of}
 use Rattle.wire.specs.Format.{Formed}
 use Rattle.row.specs.declared.state.State.{State}
 use Rattle.row.specs.declared.state.Sent.{Sent}
-use Rattle.row.specs.Refusals.{first_of, fit_reasons}
+use Rattle.row.specs.Refusals.{first_of, fit_reasons, of_group}
 use Rattle.row.specs.Effects.{Effect, Outcome, called_for, filled, suggests_last}
 use Rattle.row.specs.Calls.{Posted, sent}
 
@@ -121,7 +121,7 @@ pub record Tallied (m : Msg) (t : Tally) (b : ℕ) : Type 0 where
 -- A proof is that of a message, and each of its boards has an ack of eight bytes.
 pub record WholeProof (m : Msg) (p : ℕ) : Type 0 where
   pub shown : (proof_of m).boards ≡ p
-  pub long : (b : ℕ) → member p b ≡ true → length (tag_at (place p b) (proof_of m).acks) ≡ 8
+  pub long : (b : ℕ) → member (proof_of m).boards b ≡ true → length (tag_at (place (proof_of m).boards b) (proof_of m).acks) ≡ 8
 
 -- A message is a last to count in a state: of a rank and a board, with an entry and a proof.
 pub record Telling (st : State) (m : Msg) (k b : ℕ) (e : Entry) (p : ℕ) : Type 0 where
@@ -142,23 +142,11 @@ abbrev pub last_certificate : ℕ → ℕ → Leader → Count → Msg
 last_certificate v k l n = Msg.suggest_last v k n.set.bits (stored_replies n.set.bits l.entries n.tags) l.proof.set.bits (count_tags l.proof)
 
 -- The lone kinds of this layer.
-abbrev pub lone_kind : Msg → Bool
-lone_kind (Msg.notify v c b t) = true
-lone_kind (Msg.suggest v c a t) = false
-lone_kind (Msg.ack v k c b t) = true
-lone_kind (Msg.proposal v k c a t) = false
-lone_kind (Msg.ready v k c b t) = true
-lone_kind (Msg.change v k c a t) = false
-lone_kind (Msg.deputy v k b t) = true
-lone_kind (Msg.query v k a t) = false
-lone_kind (Msg.last v k b e p ak) = true
-lone_kind (Msg.suggest_last v k a es p ak) = false
-lone_kind (Msg.init v b n k p t) = false
-lone_kind (Msg.echo v b n k p d t) = false
-lone_kind (Msg.commit v b n k p a t) = false
+abbrev pub is_counted : Msg → Bool
+is_counted m = of_group m && lone_kind (kind m)
 
 -- A formed message to count, of which no reason holds before the tags are looked at.
 pub record Taken (st : State) (m : Msg) (room : ℕ) : Type 0 where
   pub formed : Formed m
-  pub counts : lone_kind m ≡ true
+  pub counts : is_counted m ≡ true
   pub unrefused : first_of (fit_reasons st m room) ≡ None

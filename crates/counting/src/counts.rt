@@ -11,16 +11,10 @@ use crate::leader::gained;
 use boards::Set;
 use row::row::Row;
 use row::state::{Count, Leader, Sent, Slot, Stand};
-use sending::post;
+use sending::{NOTHING, post};
 use signed::tag;
 use views::view::View;
 use wire::message::{Body, Message};
-
-// Nothing is sent.
-pub(crate) const SILENT: Sent = Sent {
-    to: Set::EMPTY,
-    length: 0,
-};
 
 // A lone message that is counted, but for its speaker and tag. Not a `Claim`, of whose seven kinds three are not counted here:
 // each method would have an arm that cannot be met.
@@ -129,6 +123,6 @@ pub(crate) fn count(
         post(&certificate, tally.to(&view), out).unwrap()
     } else {
         row.state.leader = leader;
-        SILENT
+        NOTHING
     }
 }

@@ -4,7 +4,7 @@ ghost use Rattle.std.specs.Prelude.{◌≡◌, length};
 ghost use Rattle.wire.specs.Messages.{meaning};
 ghost use Rattle.row.specs.Effects.{heard};
 ghost use Rattle.sending.specs.Sends.{HeardIf};
-ghost use Rattle.counting.specs.Counts.{Counted, Taken, lone_kind};
+ghost use Rattle.counting.specs.Counts.{Counted, Taken, is_counted};
 
 use crate::counts::{Tally, count, own_tag};
 use crate::lasts::{acks_in, last};
@@ -17,8 +17,8 @@ use schemes::Scheme;
 use wire::message::{Body, Message};
 
 // Whether a message is of the kinds that are counted.
-fn lone_kind(m: &Message<'_>) -> bool
-    ensures { result ≡ lone_kind (meaning m.now) }
+fn is_counted(m: &Message<'_>) -> bool
+    ensures { result ≡ is_counted (meaning m.now) }
 {
     matches!(
         m.body,
@@ -82,9 +82,9 @@ pub fn hear<S: Scheme>(
     m: &Message<'_>,
     out: &mut [u8],
 ) -> Option<Result<Sent, Refusal>>
-    ensures { HeardIf S.Scheme lone_kind row.old.state scheme.now (meaning m.now) out.old result row.new.state scheme.now out.new }
+    ensures { HeardIf S.Scheme is_counted row.old.state scheme.now (meaning m.now) out.old result row.new.state scheme.now out.new }
 {
-    if !lone_kind(m) {
+    if !is_counted(m) {
         return None;
     }
     // Not `Result::map`: what a closure that it does not call leaves of its captures is not known.

@@ -8,12 +8,11 @@ ghost use Rattle.row.specs.Rows.{tells, proves};
 ghost use Rattle.row.specs.Effects.{proof_count};
 ghost use Rattle.counting.specs.Counts.{Counted, WholeProof, last_certificate, tallied_lasts};
 
-use crate::counts::SILENT;
 use boards::Set;
 use row::row::Row;
 use row::state::{Count, Leader, Sent, Slot, Stand};
 use seats::called_for;
-use sending::post;
+use sending::{NOTHING, post};
 use signed::proof_tag;
 use std::array;
 use wire::message::{Body, Entries, Message, Replies};
@@ -80,6 +79,6 @@ pub(crate) fn last(row: &mut Row, rank: u8, leader: Leader, out: &mut [u8]) -> S
         post(&m, view.set(), out).unwrap()
     } else {
         row.state.leader = leader;
-        SILENT
+        NOTHING
     }
 }

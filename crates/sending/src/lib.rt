@@ -18,6 +18,12 @@ use wire::message::{Body, Message, Spoken, Tags};
 use words::statement::{Claim, Statement};
 use writer::write;
 
+// What an accepted call answers that sends nothing.
+pub const NOTHING: Sent = Sent {
+    to: Set::EMPTY,
+    length: 0,
+};
+
 // Whether there are bytes that spell a message.
 pub fn is_formed(m: &Message<'_>) -> bool
     ensures { Decides result (Formed (meaning m.now)) }

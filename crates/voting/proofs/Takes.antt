@@ -20,36 +20,22 @@ use Rattle.row.specs.declared.state.State.{State}
 use Rattle.row.specs.States.{group, many, inside}
 use Rattle.row.specs.Effects.{heard_tag}
 use Rattle.sending.proofs.Numbers.{number_is, tag_at_long}
-use Rattle.admission.proofs.Early.{Passed, passed}
-use Rattle.voting.specs.Votes.{Taken, WholeTags}
-
--- A signer's tag is the number of its bytes; another board has none.
-pub heard_as : (m : Msg) (b : ℕ) (o : Option ℕ) → WholeTags m → SignerTagged m b o → IfSome o (λ x. x < 2 ^ 64) → unwrap_or o 0 ≡ heard_tag m (signers m) b
-heard_as m b (Some x) long t fits = sym (cond-true (member (signers m) b) (tag_number (tag_of m b)) 0 t.0 ∙ number_is x (tag_of m b) fits t.1)
-heard_as m b None long t fits =
-    let out : member (signers m) b ≡ false =
-    ⊎_elim (λ no. no) (λ short. ⊎_elim (λ i. absurd (short (long b i))) (λ no. no) (cases_Bool (member (signers m) b))) t in
-    sym (cond-false (member (signers m) b) (tag_number (tag_of m b)) 0 out)
+use Rattle.admission.specs.Judged.{Taken}
+use Rattle.admission.proofs.Early.{passes}
+use Rattle.voting.specs.Votes.{WholeTags}
 
 -- A member's view has a member.
 peopled : (s : State) (x : Bool) → (not (inside s) || x) ≡ false → 1 ≤ many s
 peopled s x h = omega (arith, place_below (group s) s.board (not-false (inside s) (or_parts (not (inside s)) x h).0))
 
 module _ {S : Type 0} (g : Ghosts S) where
-  passes : (st : State) (s : S) (m : Msg) (room : ℕ) → Taken g st s m room → Passed st m room (genuine (g.good s) m) (g.spent s)
-  passes st s m room t = passed st m room (genuine (g.good s) m) (g.spent s) t.unrefused
-
-  -- The same of a body by another name.
-  pub taken_as : (st : State) (s : S) (v : ℕ) (x y : Body) (room : ℕ) → x ≡ y → Taken g st s (said_in v x) room → Taken g st s (said_in v y) room
-  taken_as st s v x y room e t = subst (λ z. Taken g st s (said_in v z) room) e t
-
   pub takes_suggest : (st : State) (s : S) (v c a : ℕ) (t : List ℕ) (room : ℕ) → Taken g st s (Msg.suggest v c a t) room → c < 8
   takes_suggest st s v c a t room h = (held h.formed).3.3.3.1
 
   pub takes_proposal : (st : State) (s : S) (v k c a : ℕ) (t : List ℕ) (room : ℕ) → Taken g st s (Msg.proposal v k c a t) room
       → ((1 ≤ k) × (k ≤ 8) × (c < 8)) × WholeTags (Msg.proposal v k c a t) × (1 ≤ size a)
   takes_proposal st s v k c a t room h =
-      let p = passes st s (Msg.proposal v k c a t) room h in
+      let p = passes g st s (Msg.proposal v k c a t) room h in
       let f = held h.formed in
       let r = between 1 8 k f.3.3.2 in
       let many_a : size a ≡ quorum (many st) = eqb-true (size a) (quorum (many st)) (not-false _ p.sized) in

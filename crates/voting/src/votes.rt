@@ -11,7 +11,8 @@ ghost use Rattle.row.specs.Effects.{acks, heard, keeping, readies, tells};
 ghost use Rattle.row.specs.Refusals.{answered, hear_refusal, Unless};
 ghost use Rattle.row.specs.Calls.{Hears};
 ghost use Rattle.sending.specs.Sends.{Able, Did, HeardIf};
-ghost use Rattle.voting.specs.Votes.{Taken, WholeTags};
+ghost use Rattle.admission.specs.Judged.{Taken};
+ghost use Rattle.voting.specs.Votes.{WholeTags};
 
 use crate::voter::{heard_count, kept_entry, shown};
 use admission::judge;
@@ -99,7 +100,8 @@ fn last<S: Scheme>(row: &mut Row, scheme: &mut S, rank: u8, out: &mut [u8]) -> S
 
 // What the row does with a message that it takes.
 fn accepted<S: Scheme>(row: &mut Row, scheme: &mut S, m: &Message<'_>, out: &mut [u8]) -> Sent
-    requires { Taken S.Scheme row.old.state scheme.old (meaning m.now) (length out.old) }
+    requires taken { Taken S.Scheme row.old.state scheme.old (meaning m.now) (length out.old) }
+    requires votes { answered (meaning m.now) ≡ true }
     ensures { Did S.Scheme (heard row.old.state (meaning m.now)) row.old.state scheme.old out.old result row.new.state scheme.new out.new }
 {
     match m.body {
