@@ -32,5 +32,7 @@ pub mod Growth
 pub mod Lives
 pub mod Earned
 pub mod Theorem
+-- Good tags vouch.
+pub mod Tags
 -- There are such histories.
 pub mod Witness

@@ -1,13 +1,14 @@
 -- What a call that was not refused says: none of the reasons in its list holds.
--- Only what the argument rests on is drawn from the lists; a tag's being good is no part of it.
-use Rattle.std.proofs.Common.{◌≡◌, ℕ, ◌<◌, Bool, true, false, cond, not, ◌&&◌, ◌||◌, eqb, leb, Some, None, Option, refl, ⊎_elim, arith}
+-- Only what the argument rests on is drawn from the lists; that the tags are good is drawn for its callers, and is no part of it.
+use Rattle.std.proofs.Common.{◌≡◌, ℕ, ◌<◌, Bool, true, false, cond, not, ◌&&◌, ◌||◌, eqb, leb, List, [], ◌∷◌, ◌++◌, Some, None, Option, refl, ⊎_elim, arith}
 use Rattle.std.proofs.lemmas.Bool.{or_parts, and_cases, not-false, eqb-true, eqb-false, leb-false, both_ways}
 use Rattle.boards.specs.Boards.{member, Within}
 use Rattle.codes.specs.declared.Refusal.{Refusal}
+use Rattle.codes.specs.declared.Refusal.TheVariants.{Tag}
 use Rattle.wire.specs.Messages.{Msg, view_of}
 use Rattle.row.specs.declared.state.State.{State}
 use Rattle.row.specs.States.{latest, group, many, inside}
-use Rattle.row.specs.Refusals.{strays, empties, stranger, barred, late, misfit, hear_refusal, out_refusal, in_refusal}
+use Rattle.row.specs.Refusals.{first_of, strays, empties, stranger, barred, late, misfit, fit_reasons, seal_reasons, hear_refusal, out_refusal, in_refusal}
 use Rattle.boards.proofs.Chosen.{any_none}
 
 clear : (t : Bool) (e : Refusal) (rest : Option Refusal) → cond t (Some e) rest ≡ None → (t ≡ false) × (rest ≡ None)
@@ -33,6 +34,16 @@ taken_up s m room genuine spent h =
     let known = clear _ _ _ late.1 in
     let size = clear _ _ _ known.1 in
     record { now = eqb-true _ _ (not-false _ view.0); known = member.0; may = change.0; timely = late.0; fits = size.0 }
+
+-- Where no reason of a list holds, none of its end does.
+none_after : (xs ys : List (Bool × Refusal)) → first_of (xs ++ ys) ≡ None → first_of ys ≡ None
+none_after [] ys h = h
+none_after (x ∷ xs) ys h = none_after xs ys (clear x.0 x.1 (first_of (xs ++ ys)) h).1
+
+-- Every tag of a message that was heard is good.
+pub was_genuine : (s : State) (m : Msg) (room : ℕ) (genuine spent : Bool) → hear_refusal s m room genuine spent ≡ None → genuine ≡ true
+was_genuine s m room genuine spent h =
+    not-false genuine (clear (not genuine) Tag _ (none_after (fit_reasons s m room) (seal_reasons m genuine spent) h)).0
 
 -- A board was asked out.
 pub record AskedOut (s : State) (c : ℕ) : Type 0 where

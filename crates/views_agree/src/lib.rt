@@ -4,6 +4,7 @@
 
 ghost use Rattle.views_agree.specs.Agreement.{ViewsAgree};
 ghost use Rattle.views_agree.specs.Grounds.{SignedWasHanded, SomeChange};
+ghost use Rattle.views_agree.specs.Tags.{TagsVouch};
 
 use schemes::Scheme;
 
@@ -20,4 +21,9 @@ pub fn signed_was_handed<S: Scheme>(scheme: &S)
 // There is a history of this sort in which a board goes on to its second view.
 pub fn some_history_changes_the_view()
     ensures { SomeChange }
+{}
+
+// Where every good tag of a correct board was signed in a step, histories are vouched for, and it stays so.
+pub fn good_tags_vouch<S: Scheme>(scheme: &S)
+    ensures { TagsVouch S.Scheme }
 {}

@@ -1,0 +1,74 @@
+-- Good tags vouch: an accepted hear has only good tags, so each of its boards outside the faulty ones signed what its tag stands for.
+-- A call makes no tag good but that of the words which its step signed.
+use Rattle.std.proofs.Common.{◌≡◌, ℕ, Bool, true, false, not, ◌&&◌, ◌||◌, ◌⊎◌, List, ◌∷◌, length, Some, None, Ok, Err, Option, Result, sym, refl, ap, ◌∙◌, subst, inl, inr, ⊎_elim}
+use Rattle.std.proofs.lemmas.Bool.{and_parts, or_cases, not-true, both_ways}
+use Rattle.boards.specs.Boards.{member, every}
+use Rattle.boards.proofs.Chosen.{every_at}
+use Rattle.boards.proofs.Members.{member_below}
+use Rattle.codes.specs.declared.Refusal.{Refusal}
+use Rattle.schemes.specs.declared.Scheme.{Ghosts}
+use Rattle.schemes.specs.Meaning.{Good, Signed as SignedGood}
+use Rattle.checks.specs.Checks.{boards_in, act_in, good_in, part_genuine, genuine}
+use Rattle.checks.specs.declared.Part.{Part}
+use Rattle.checks.specs.declared.Part.TheVariants.{Signers, Proof}
+use Rattle.wire.specs.Messages.{Msg, tag_bytes}
+use Rattle.wire.specs.Acts.{Act, words}
+use Rattle.row.specs.declared.state.State.{State}
+use Rattle.row.specs.declared.state.Sent.{Sent}
+use Rattle.row.specs.Effects.{Effect, Outcome, lone}
+use Rattle.row.specs.Calls.{Posted, Done, Called, Hears}
+use Rattle.row.specs.Refusals.{hear_refusal}
+use Rattle.views_agree.specs.Agreement.{Call, Step, Outside, Promised, Signs, Signed, VouchedFor}
+use Rattle.views_agree.specs.Tags.{TagsSigned, TagsVouch}
+use Rattle.views_agree.proofs.Passed.{was_genuine}
+use Rattle.views_agree.proofs.StepDeeds.{outcome}
+use Rattle.views_agree.proofs.Signing.{called_as}
+
+-- Each board of a genuine part has a good tag there.
+part_good : (part : Part) (good : Good) (m : Msg) (b : ℕ) → part_genuine part good m ≡ true → member (boards_in part m) b ≡ true → good_in part good m b ≡ true
+part_good part good m b all i =
+    ⊎_elim (λ out. absurd (both_ways (member (boards_in part m) b) (not-true (member (boards_in part m) b) out) i)) (λ is. is)
+    (or_cases (not (member (boards_in part m) b)) (good_in part good m b) (every_at (λ k. not (member (boards_in part m) k) || good_in part good m k) 8 b all (member_below (boards_in part m) b i)))
+
+-- A call that signs makes good the tags of its own board's words; another makes none.
+module _ {S : Type 0} (g : Ghosts S) where
+  done_signs : (x : Effect) (board : ℕ) (out : List ℕ) (s : S) (a : Sent) (s2 : S) (out2 : List ℕ) → Done g board x out s a s2 out2
+      → (e : Step) → e.answer ≡ Ok a → e.offered ≡ out → e.written ≡ out2 → board ≡ e.board
+      → (b : ℕ) (w : List ℕ) (t : ℕ) → g.good s2 b w t ≡ true → (g.good s b w t ≡ true) ⊎ ((e.board ≡ b) × Signs e w)
+  done_signs Effect.silent board out s a s2 out2 d e ok o o2 same b w t is = inl (subst (λ z. g.good z b w t ≡ true) d.1 is)
+  done_signs (Effect.sends to m) board out s a s2 out2 d e ok o o2 same b w t is = inl (subst (λ z. g.good z b w t ≡ true) d.1 is)
+  done_signs (Effect.signs to act proof acks) board out s a s2 out2 d e ok o o2 same b w t is =
+      let posted : Posted to (lone act e.board proof acks (tag_bytes d.tag)) e.offered a e.written =
+      subst (λ y. Posted to (lone act e.board proof acks (tag_bytes d.tag)) e.offered a y) (sym o2)
+      (subst (λ y. Posted to (lone act e.board proof acks (tag_bytes d.tag)) y a out2) (sym o)
+      (subst (λ y. Posted to (lone act y proof acks (tag_bytes d.tag)) out a out2) same d.posted)) in
+      ⊎_elim inl (λ new. inr (sym (new.0 ∙ same), record { sent = a; accepted = ok; to = to; act = act; proof = proof; acks = acks; tag = d.tag; posted = posted; signed = new.1 }))
+          (d.signed.only b w t is)
+
+  called_signs : (r : Result Sent Refusal) (why : Option Refusal) (o : Outcome) (e : Step) (s s2 : S) → e.answer ≡ r → Called g why o e.before s e.offered r e.after s2 e.written → e.before.board ≡ e.board
+      → (b : ℕ) (w : List ℕ) (t : ℕ) → g.good s2 b w t ≡ true → (g.good s b w t ≡ true) ⊎ ((e.board ≡ b) × Signs e w)
+  called_signs (Ok a) why o e s s2 is p same b w t good = done_signs o.1 e.before.board e.offered s a s2 e.written p.2 e is refl refl same b w t good
+  called_signs (Err x) why o e s s2 is p same b w t good = inl (subst (λ z. g.good z b w t ≡ true) p.2 good)
+
+  vouched_for : (faulty : ℕ) (h : List Step) (c : Call) (r : Result Sent Refusal) (e : Step) (s s2 : S) → TagsSigned faulty h (g.good s)
+      → e.answer ≡ r → Promised g c e s s2 → VouchedFor faulty h c r
+  vouched_for faulty h (Call.ask_out c) r e s s2 tags is p = tt
+  vouched_for faulty h (Call.ask_in c y) r e s s2 tags is p = tt
+  vouched_for faulty h (Call.hear m) (Err x) e s s2 tags is p = tt
+  vouched_for faulty h (Call.hear m) (Ok a) e s s2 tags is p =
+      let heard : Hears g e.before s m e.offered (Ok a) e.after s2 e.written = subst (λ r. Hears g e.before s m e.offered r e.after s2 e.written) is p.2 in
+      let all = was_genuine e.before m (length e.offered) (genuine (g.good s) m) (g.spent s) heard.0 in
+      let parts = and_parts (part_genuine Signers (g.good s) m) (part_genuine Proof (g.good s) m) all in (
+        λ b o i. tags b _ _ o (part_good Signers (g.good s) m b parts.0 i),
+        λ b o i. tags b _ _ o (part_good Proof (g.good s) m b parts.1 i),
+      )
+
+  pub tags_vouch : TagsVouch g
+  tags_vouch = record {
+    vouch = λ faulty h e s s2 tags p. vouched_for faulty h e.call e.answer e s s2 tags refl p;
+    stay = λ faulty h e s s2 tags p same b w t o is.
+        let q = called_as g e.call e s s2 p in
+        ⊎_elim (λ old. inr (tags b w t o old)) inl (called_signs e.answer q.why (outcome e.call e.before) e s s2 refl q.called same b w t is);
+    faulty_signs = λ faulty h s s2 c u v tags lies signed b w t o is.
+        ⊎_elim (tags b w t o) (λ new. absurd (both_ways (member faulty b) o.1 (ap (member faulty) new.0 ∙ lies))) (signed.only b w t is);
+  }
