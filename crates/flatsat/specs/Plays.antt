@@ -1,5 +1,6 @@
 -- What a script answers: line by line, each call with its answer under its number, and in the end the count.
--- A blank line answers nothing and has no number. Keys that a line gives are kept until another gives keys.
+-- A blank line answers nothing and has no number. Keys that a line gives are kept until another gives keys. Where a call has several answers, all
+-- are under its number, and the last is counted.
 use Rattle.std.specs.Prelude.{◌≡◌, ℕ, ◌+◌, ◌⊎◌, List, [], ◌++◌, Some, None, Ok, Err, vec_items, Option, Result}
 use Rattle.grammar.specs.declared.fault.Fault.{Fault}
 use Rattle.wire.specs.Messages.{meaning}
@@ -8,14 +9,15 @@ use Rattle.schemes.specs.Keys.{keyed_good}
 use Rattle.codes.specs.declared.Refusal.TheVariants.{Form}
 use Rattle.script.specs.declared.answer.Reason.{Reason}
 use Rattle.script.specs.declared.answer.Answer.{Answer}
-use Rattle.script.specs.declared.answer.Answer.TheVariants.{Heard, Kept, Refused, Wrong}
+use Rattle.script.specs.declared.answer.Answer.TheVariants.{Heard, Kept, Viewed, Refused, Wrong}
 use Rattle.script.specs.declared.call.Call.{Call}
-use Rattle.script.specs.declared.call.Call.TheVariants.{Read, Keys}
+use Rattle.script.specs.declared.call.Call.TheVariants.{Read, Keys, Views}
 use Rattle.script.specs.declared.tally.Tally.{Tally}
 use Rattle.script.specs.Words.{before, past, body}
 use Rattle.script.specs.Hex.{read_hex}
 use Rattle.script.specs.Calls.{Parses}
 use Rattle.script.specs.Outcomes.{answer_line, tally_line, OneMore}
+use Rattle.groups.specs.Groups.{Answers as ViewsAnswers}
 use Rattle.flatsat.specs.declared.play.Page.{Page}
 use Rattle.flatsat.specs.Audits.{keys_of, Audits}
 
@@ -38,25 +40,32 @@ abbrev pub Answers : KeptKeys → List ℕ → Answer → Type 0
 Answers keys bs (Heard m None) = (keys ≡ None) × Reads bs (Ok (meaning m))
 Answers keys bs (Heard m (Some a)) = (ks : List (List ℕ)) × (keys ≡ Some ks) × Reads bs (Ok (meaning m)) × Audits (keyed_good ks) (meaning m) a
 Answers keys bs Kept = ⊥
+Answers keys bs (Viewed g) = ⊥
 Answers keys bs (Refused r) = (f : Fault) × (r ≡ Form f) × Reads bs (Err f)
 Answers keys bs (Wrong e) = ⊥
 
--- The answer to what a line was parsed as, and the keys from then on; a blank line has no answer.
-abbrev pub Called : KeptKeys → Result (Option Call) Reason → Answer → KeptKeys → Type 0
-Called keys (Ok None) a keys' = ⊥
-Called keys (Ok (Some (Read ds))) a keys' = Answers keys (read_hex ds.now) a × (keys' ≡ keys)
-Called keys (Ok (Some (Keys ds))) a keys' = (a ≡ Kept) × (keys' ≡ Some (keys_of (read_hex ds.now)))
-Called keys (Err e) a keys' = (a ≡ Wrong e) × (keys' ≡ keys)
+-- How many calls were made.
+abbrev pub made : Tally → ℕ
+made t = t.ok + t.refused + t.wrong
+
+-- The last answer to what a line was parsed as, and the state in which it is still to be told: the keys are those from then on, and the text
+-- has the lines of the answers before it. A blank line has no answer.
+abbrev pub Called : State → Result (Option Call) Reason → Answer → State → Type 0
+Called s (Ok None) a s' = ⊥
+Called s (Ok (Some (Read ds))) a s' = Answers s.keys (read_hex ds.now) a × (s' ≡ s)
+Called s (Ok (Some (Keys ds))) a s' = (a ≡ Kept) × (s' ≡ record { text = s.text; tally = s.tally; keys = Some (keys_of (read_hex ds.now)) })
+Called s (Ok (Some (Views ms cs))) a s' = ViewsAnswers (made s.tally + 1) ms.now cs.now s.text s'.text a × (s'.tally ≡ s.tally) × (s'.keys ≡ s.keys)
+Called s (Err e) a s' = (a ≡ Wrong e) × (s' ≡ s)
 
 -- An answer is told: it is counted, and its line is added to the text with the count as its number.
 abbrev pub Told : State → Answer → State → Type 0
-Told s a s' = OneMore s.tally a s'.tally × (s'.text ≡ s.text ++ answer_line (s'.tally.ok + s'.tally.refused + s'.tally.wrong) a)
+Told s a s' = OneMore s.tally a s'.tally × (s'.text ≡ s.text ++ answer_line (made s'.tally) a) × (s'.keys ≡ s.keys)
 
 -- A line is played: nothing changes if it is blank; else it is parsed, called and told.
 abbrev pub LinePlayed : List ℕ → State → State → Type 0
 LinePlayed line s s' =
     (Parses line (Ok None) × (s' ≡ s))
-    ⊎ ((r : Result (Option Call) Reason) × (a : Answer) × Parses line r × Called s.keys r a s'.keys × Told s a s')
+    ⊎ ((r : Result (Option Call) Reason) × (a : Answer) × (before : State) × Parses line r × Called s r a before × Told before a s')
 
 -- The lines of a script are played one after another.
 pub data Plays : List ℕ → State → State → Type 0 where

@@ -6,9 +6,10 @@ ghost use Rattle.flatsat.specs.Plays.{state_of, Answers, Told, LinePlayed, Lines
 
 use crate::audit::{audit, keys};
 use codes::Refusal;
+use groups::views;
 use reader::read::read;
 use schemes::keyed::Keys;
-use script::answer::{Answer, answer_line, tally_line};
+use script::answer::{Answer, Answered, answer_line, tally_line};
 use script::call::{Call, parse};
 use script::hex::unhex;
 use script::tally::Tally;
@@ -40,7 +41,7 @@ impl Page {
     // Adds the line of one more answer.
     fn told(self, answer: Answer<'_>) -> Result<Page, AllocError>
         requires { self.tally.ok + self.tally.refused + self.tally.wrong + 1 < 2 ^ 64 }
-        ensures { IfOk result (λ p. Told (state_of self) answer.entry (state_of p) × (p.keys ≡ self.keys)) }
+        ensures { IfOk result (λ p. Told (state_of self) answer.entry (state_of p)) }
     {
         let Page { text, tally, keys } = self;
         let tally = tally.count(answer).unwrap();
@@ -64,6 +65,11 @@ impl Page {
                 let bytes = unhex(Vec::new(heap), digits)?;
                 let keys = Some(keys(&bytes));
                 Page { keys, ..self }.told(Answer::Kept)
+            }
+            Ok(Some(Call::Views { members, changes })) => {
+                let Page { text, tally, keys } = self;
+                let Answered { text, last } = views(text, tally.calls() + 1, members, changes)?;
+                Page { text, tally, keys }.told(last)
             }
             Err(reason) => self.told(Answer::Wrong(reason)),
         }

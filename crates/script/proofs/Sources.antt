@@ -1,23 +1,12 @@
 -- Where the items of lists come from: the boards of a set, and pieces of bytes.
 -- Which items they give, and that these are the ones a message means.
-use Rattle.std.proofs.Common.{◌≡◌, ℕ, zero, suc, ◌+◌, ◌-◌, ◌*◌, ◌/◌, ◌<◌, min, Bool, true, false, cond, List, [], ◌∷◌, ◌++◌, map, filter, length, take, drop, sym, refl, ap, ◌∙◌, subst, ⊎_elim, append-nil, add-one, arith, length-append, length-drop, get_or, add-zero}
+use Rattle.std.proofs.Common.{◌≡◌, ℕ, zero, suc, ◌+◌, ◌-◌, ◌*◌, ◌/◌, ◌<◌, min, true, List, [], ◌∷◌, ◌++◌, map, length, take, drop, sym, refl, ap, ◌∙◌, subst, ⊎_elim, append-nil, arith, length-append, length-drop, get_or, add-zero}
 use Rattle.std.proofs.lemmas.Bool.{cases_lt}
 use Rattle.std.proofs.lemmas.List.{get_or-take, get_or-drop, drop-take, map-append, take_all, drop_all, drop_at, drop-drop, take-append-le}
-use Rattle.std.proofs.lemmas.Iterator.{YieldsList, YieldsList-from_range}
-use Rattle.std.proofs.lemmas.Iterator.Consumers.{YieldsList-from_filter}
+use Rattle.std.proofs.lemmas.Iterator.{YieldsList}
 use Rattle.std.proofs.lemmas.Iterator.Splits.{YieldsList-from_shown_while}
 use Rattle.std.specs.Slice.Iter.{chunks_rest, chunks_size, chunks_steps}
 use Rattle.std.specs.declared.slice.Chunks.{Chunks}
-use Rattle.std.specs.List.{range_with_len}
-use Rattle.std.specs.declared.ops.Range.{Range}
-use Rattle.std.specs.declared.iter.Filter.{Filter}
-use Rattle.std.specs.Iterator.Adapters.{filter_source, filter_callee, filter_steps}
-use Rattle.std.proofs.lemmas.List.Elements.{filter-append, All-filter}
-use Rattle.std.proofs.lemmas.List.FromFn.{map-range_with_len_more, get_or-range_with_len}
-use Rattle.std.specs.Fn.{CalledAt}
-use Rattle.std.proofs.iter.Yields.{nat_range_steps}
-use denote.Param.Members.{Mut}
-use denote.Ref.{Bor}
 use Rattle.boards.specs.Boards.{member, boards}
 use Rattle.boards.proofs.Lists.{all_boards}
 use Rattle.boards.proofs.Members.{member_below}

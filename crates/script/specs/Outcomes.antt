@@ -1,4 +1,4 @@
--- Answers as text: a message, with its audit if it has one, a refusal by its code, or what is wrong with the line, each after the line's number.
+-- Answers as text: a message, with its audit if it has one, a view of a group, a refusal by its code, or what is wrong with the line, each after the line's number.
 -- The last line of a script counts its calls by their answers.
 use Rattle.std.specs.Prelude.{◌≡◌, ℕ, ◌+◌, ◌-◌, ◌^◌, List, [], ◌∷◌, ◌++◌, Some, None, codes, decimal, Option}
 use Rattle.grammar.specs.declared.fault.Fault.{Fault}
@@ -7,13 +7,14 @@ use Rattle.grammar.specs.Faults.{layer_name}
 use Rattle.codes.specs.Codes.{number_of, name_of, fault_of}
 use Rattle.wire.specs.Messages.{meaning}
 use Rattle.script.specs.declared.answer.Reason.{Reason}
-use Rattle.script.specs.declared.answer.Reason.TheVariants.{NotText, UnknownCall, TooFewWords, TooManyWords, NotHexadecimal, OddDigits, NotEightKeys}
+use Rattle.script.specs.declared.answer.Reason.TheVariants.{NotText, UnknownCall, TooFewWords, TooManyWords, NotHexadecimal, OddDigits, NotEightKeys, NotDigits}
 use Rattle.script.specs.declared.answer.Answer.{Answer}
-use Rattle.script.specs.declared.answer.Answer.TheVariants.{Heard, Kept, Refused, Wrong}
+use Rattle.script.specs.declared.answer.Answer.TheVariants.{Heard, Kept, Viewed, Refused, Wrong}
 use Rattle.script.specs.declared.tally.Tally.{Tally}
 use Rattle.script.specs.Lines.{option_text}
 use Rattle.script.specs.Shown.{shown}
 use Rattle.script.specs.Audits.{audit_text}
+use Rattle.script.specs.Groups.{group_text}
 
 -- What is wrong with a line, in plain words.
 abbrev pub reason_text : Reason → List ℕ
@@ -24,6 +25,7 @@ reason_text TooManyWords = codes "too many words"
 reason_text NotHexadecimal = codes "not hexadecimal"
 reason_text OddDigits = codes "odd number of digits"
 reason_text NotEightKeys = codes "not 256 digits"
+reason_text NotDigits = codes "not digits"
 
 -- A fault: its layer and its place.
 abbrev pub fault_text : Option Fault → List ℕ
@@ -38,6 +40,7 @@ refusal_text r = decimal (number_of r) ++ 32 ∷ (name_of r ++ fault_text (fault
 abbrev pub answer_text : Answer → List ℕ
 answer_text (Heard m a) = shown (meaning m) ++ option_text audit_text a
 answer_text Kept = codes "ok"
+answer_text (Viewed g) = group_text g
 answer_text (Refused r) = codes "refused " ++ refusal_text r
 answer_text (Wrong r) = codes "error " ++ reason_text r
 
@@ -58,6 +61,7 @@ OneOk t u = (u.ok ≡ t.ok + 1) × (u.refused ≡ t.refused) × (u.wrong ≡ t.w
 abbrev pub OneMore : Tally → Answer → Tally → Type 0
 OneMore t (Heard m a) u = OneOk t u
 OneMore t Kept u = OneOk t u
+OneMore t (Viewed g) u = OneOk t u
 OneMore t (Refused r) u = (u.ok ≡ t.ok) × (u.refused ≡ t.refused + 1) × (u.wrong ≡ t.wrong)
 OneMore t (Wrong r) u = (u.ok ≡ t.ok) × (u.refused ≡ t.refused) × (u.wrong ≡ t.wrong + 1)
 

@@ -11,7 +11,7 @@ use Rattle.wire.specs.Messages.{Msg, Reply, sort_name}
 use Rattle.script.specs.Texts.{field, boards_text, tags_text, entry_text, entries_text, replied_text, payload_text}
 
 -- A field that is a number.
-abbrev number : String → ℕ → List ℕ
+abbrev pub number : String → ℕ → List ℕ
 number name n = field (codes name) (decimal n)
 
 -- The kind's name and the view.

@@ -20,9 +20,13 @@ blank b = b == 32 || b == 9
 abbrev pub plain : ℕ → Bool
 plain b = blank b || (nat_lt 32 b && nat_lt b 127)
 
+-- A decimal digit.
+abbrev pub digit_sign : ℕ → Bool
+digit_sign b = nat_le 48 b && nat_le b 57
+
 -- A hexadecimal digit, in either case.
 abbrev pub hex_sign : ℕ → Bool
-hex_sign b = (nat_le 48 b && nat_le b 57) || ((nat_le 65 b && nat_le b 70) || (nat_le 97 b && nat_le b 102))
+hex_sign b = digit_sign b || ((nat_le 65 b && nat_le b 70) || (nat_le 97 b && nat_le b 102))
 
 -- The bytes before the first mark; all of them if there is none.
 abbrev pub before : ℕ → List ℕ → List ℕ

@@ -1,10 +1,11 @@
-// Answers as lines: a message that was heard, keys that are kept, a refusal, or what is wrong with the line of the script.
+// Answers as lines: a message that was heard, keys that are kept, a view of a group, a refusal, or what is wrong with the line of the script.
 // The texts: specs/Outcomes.antt.
 ghost use Rattle.std.specs.Prelude.{◌≡◌, Some};
 ghost use Rattle.script.specs.Lines.{Adds};
 ghost use Rattle.script.specs.Outcomes.{reason_text, fault_text, refusal_text, answer_text, answer_line, tally_line};
 
 use crate::audit::Audit;
+use crate::group::Group;
 use crate::line::Text;
 use crate::tally::Tally;
 use codes::Refusal;
@@ -22,6 +23,7 @@ pub enum Reason {
     NotHexadecimal,
     OddDigits,
     NotEightKeys,
+    NotDigits,
 }
 
 // What a line of the script is answered. No Result: three kinds of answers are counted apart, and none of them is passed on by `?`.
@@ -29,8 +31,16 @@ pub enum Reason {
 pub enum Answer<'a> {
     Heard(Message<'a>, Option<Audit>),
     Kept,
+    Viewed(Group),
     Refused(Refusal),
     Wrong(Reason),
+}
+
+// What a call of several lines answers: the text with all of them but the last, which is still to be added, and to be counted.
+#[derive(Drop)]
+pub struct Answered<'a> {
+    pub text: Vec<u8>,
+    pub last: Answer<'a>,
 }
 
 impl Reason {
@@ -46,6 +56,7 @@ impl Reason {
             Reason::NotHexadecimal => "not hexadecimal",
             Reason::OddDigits => "odd number of digits",
             Reason::NotEightKeys => "not 256 digits",
+            Reason::NotDigits => "not digits",
         }
     }
 }
@@ -75,6 +86,7 @@ impl Text for Answer<'_> {
         match *self {
             Answer::Heard(message, audit) => (message, audit).write(line),
             Answer::Kept => "ok".write(line),
+            Answer::Viewed(group) => group.write(line),
             Answer::Refused(refusal) => ("refused ", refusal).write(line),
             Answer::Wrong(reason) => ("error ", reason.name()).write(line),
         }

@@ -35,7 +35,7 @@ impl Tally {
         // Each field named: `..self` is refused for a struct with a ghost field.
         let Tally { ok, refused, wrong } = self;
         Some(match answer {
-            Answer::Heard(_, _) | Answer::Kept => Tally {
+            Answer::Heard(_, _) | Answer::Kept | Answer::Viewed(_) => Tally {
                 ok: ok + 1,
                 refused,
                 wrong,

@@ -6,6 +6,7 @@ pub mod answer;
 pub mod audit;
 pub mod call;
 mod count;
+pub mod group;
 pub mod hex;
 mod line;
 mod lists;
