@@ -1,0 +1,3 @@
+-- The examples, worked out.
+-- One file: Worked.
+pub mod Worked
