@@ -1,25 +1,20 @@
 -- What a message says that a row takes: its fields are in range.
 -- One lemma a kind; what the kinds share comes first.
-use Rattle.std.proofs.Common.{◌≡◌, ℕ, ◌*◌, ◌^◌, ◌<◌, ◌≤◌, Bool, false, Some, None, Option, IfSome, ⊎_elim, not, ◌||◌, List, length, sym, subst, ◌∙◌, arith}
-use Rattle.std.proofs.lemmas.Bool.{cases_Bool, cond-true, cond-false, eqb-true, not-false, or_parts}
-use Rattle.std.specs.Option.{unwrap_or}
-use Rattle.boards.specs.Boards.{member, size, place}
+use Rattle.std.proofs.Common.{◌≡◌, ℕ, ◌*◌, ◌<◌, ◌≤◌, Bool, false, not, ◌||◌, List, length, arith}
+use Rattle.std.proofs.lemmas.Bool.{eqb-true, not-false, or_parts}
+use Rattle.boards.specs.Boards.{size, place}
 use Rattle.boards.proofs.Sets.{place_below}
 use Rattle.grammar.proofs.Held.{held}
 use Rattle.views.specs.Shares.{quorum}
 use Rattle.views.proofs.Rule.{quorum_above}
 use Rattle.schemes.specs.declared.Scheme.{Ghosts}
-use Rattle.checks.specs.Checks.{genuine}
-use Rattle.wire.specs.declared.message.Body.{Body}
-use Rattle.wire.specs.Messages.{Msg, Reply, said_in}
-use Rattle.wire.specs.Acts.{lowest, signers, tag_of, tag_number}
-use Rattle.signed.specs.Signed.{SignerTagged}
+use Rattle.wire.specs.Messages.{Msg, Reply}
+use Rattle.wire.specs.Acts.{lowest}
 use Rattle.wire.proofs.Signs.{lowest_fits}
 use Rattle.wire.proofs.Spelt.{between}
 use Rattle.row.specs.declared.state.State.{State}
 use Rattle.row.specs.States.{group, many, inside}
-use Rattle.row.specs.Effects.{heard_tag}
-use Rattle.sending.proofs.Numbers.{number_is, tag_at_long}
+use Rattle.sending.proofs.Numbers.{tag_at_long}
 use Rattle.admission.specs.Judged.{Taken}
 use Rattle.admission.proofs.Early.{passes}
 use Rattle.voting.specs.Votes.{WholeTags}

@@ -1,6 +1,6 @@
 -- The ready can be sent, and what is kept has a rank, a change and acks to show for it.
 -- From the laws of lone messages and of voters.
-use Rattle.std.proofs.Common.{◌-◌, ◌*◌, ◌≤◌, sym, subst}
+use Rattle.std.proofs.Common.{◌≤◌, sym, subst}
 use Rattle.boards.specs.Boards.{size}
 use Rattle.row.specs.declared.state.Count.{Count}
 use Rattle.sending.proofs.Lones.{can_ready, goes_out}
@@ -16,4 +16,4 @@ unwrap-sent-requires g c =
 pub invariant_of-row-clause-keeps : goal.invariant_of-row-clause-keeps
 invariant_of-row-clause-keeps g c =
     let some = subst (λ (n : Count). 1 ≤ size n.set.bits) (sym c.heard_count.ensures) c.requires.some in
-    keeps_proposal c.args.row.now.state.voter (3 * c.args.rank - 2) c.args.rank c.args.change c.heard_count.result c.requires.asked.0 c.requires.asked.1 c.requires.asked.2 some
+    keeps_proposal c.args.row.now.state.voter _ c.args.rank c.args.change c.heard_count.result c.requires.asked.0 c.requires.asked.1 c.requires.asked.2 some
