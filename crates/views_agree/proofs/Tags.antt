@@ -45,7 +45,7 @@ module _ {S : Type 0} (g : Ghosts S) where
       (subst (λ y. Posted to (lone act e.board proof acks (tag_bytes d.tag)) y a out2) (sym o)
       (subst (λ y. Posted to (lone act y proof acks (tag_bytes d.tag)) out a out2) same d.posted)) in
       ⊎_elim inl (λ new. inr (sym (new.0 ∙ same), record { sent = a; accepted = ok; to = to; act = act; proof = proof; acks = acks; tag = d.tag; posted = posted; signed = new.1 }))
-          (d.signed.only b w t is)
+      (d.signed.only b w t is)
 
   called_signs : (r : Result Sent Refusal) (why : Option Refusal) (o : Outcome) (e : Step) (s s2 : S) → e.answer ≡ r → Called g why o e.before s e.offered r e.after s2 e.written → e.before.board ≡ e.board
       → (b : ℕ) (w : List ℕ) (t : ℕ) → g.good s2 b w t ≡ true → (g.good s b w t ≡ true) ⊎ ((e.board ≡ b) × Signs e w)
