@@ -12,11 +12,13 @@ use Rattle.boards.proofs.Chosen.{every_next}
 use Rattle.boards.proofs.Members.{member_and}
 use Rattle.boards.proofs.Sets.{size_same, within_size}
 use Rattle.views.specs.Shares.{share}
-use Rattle.views_agree.specs.Agreement.{row_of}
+use Rattle.schemes.specs.declared.register.Register.{Register}
+use Rattle.views_agree.specs.Agreement.{Step, Outside, row_of, Promised}
 use Rattle.bench.specs.declared.desk.Desk.{Desk}
 use Rattle.bench.specs.declared.desk.Bench.{Bench}
 use Rattle.bench.specs.declared.story.Move.{Move}
-use Rattle.bench.specs.Moves.{states, Moved, Played}
+use Rattle.bench.specs.Story.{over_register}
+use Rattle.bench.specs.Moves.{states, Placed, Made, Moved, Played}
 use Rattle.bench.specs.Ends.{few_faulty}
 
 -- The numbers from a on, n of them.
@@ -40,6 +42,17 @@ pub same_row : (ds : List Desk) (k : ℕ) (d : Desk) → d ≡ get_or ds k d →
 same_row ds k d is =
     let row = λ (z : Desk). z.row.state in
     sym (map-set row ds k d) ∙ ap (map row) (ap (set ds k) is ∙ set-get_or ds k d)
+
+-- A call at the row of a desk, with what it left put down there, is a step.
+pub made : (b : Bench) (e : Step) (register : Register) (b2 : Bench) → Outside b.faulty.bits e.board → e.before ≡ row_of (states b.desks) e.board
+    → Promised over_register e.call e b.register register → Placed (record { faulty = b.faulty; desks = b.desks; register = register }) e.board e.after b2 → Made b e b2
+made b e register b2 outside here promised put = record {
+  outside = outside;
+  here = here;
+  promised = subst (Promised over_register e.call e b.register) (sym put.register) promised;
+  others = put.states;
+  faulty = put.faulty;
+}
 
 -- One move more of those that are left, and none.
 pub more_left : (ms : List Move) (k : ℕ) (d : Move) (b b2 end : Bench) → k < length ms → Moved b (get_or ms k d) b2 → Played (drop (k + 1) ms) b2 end → Played (drop k ms) b end
