@@ -70,11 +70,11 @@ module _ {S : Type 0} (g : Ghosts S) (faulty first : ℕ) (rows rows2 : List Sta
   pub row_here : (b : ℕ) → b ≡ e.board → (row_of rows b ≡ e.before) × (row_of rows2 b ≡ e.after)
   row_here b same = (
     ap (row_of rows) same ∙ sym t.here,
-    ap (λ l. row_of l b) t.others ∙ ap (row_of (set rows e.board e.after)) same ∙ get_or-set_same rows e.board e.after _ (omega (arith, t.outside.0, a.eight)),
+    ap (λ l. row_of l b) t.put ∙ ap (row_of (set rows e.board e.after)) same ∙ get_or-set_same rows e.board e.after _ (omega (arith, t.outside.0, a.eight)),
   )
 
   pub row_else : (b : ℕ) → (b ≡ e.board → ⊥) → row_of rows2 b ≡ row_of rows b
-  row_else b other = ap (λ l. row_of l b) t.others ∙ get_or-set_other rows e.board b e.after _ other
+  row_else b other = ap (λ l. row_of l b) t.put ∙ get_or-set_other rows e.board b e.after _ other
 
   -- Whatever holds of a row after a step if it holds of the row's own move, or of a row that stayed.
   at_row : (P : State → State → List Deed → List Deed → Type 0) → ((l : List Deed) → P e.before e.after l (put (deed_at e) l)) → ((s : State) (l : List Deed) → P s s l l)
@@ -134,7 +134,7 @@ module _ {S : Type 0} (g : Ghosts S) (faulty first : ℕ) (rows rows2 : List Sta
 
   pub alive_next : Alive faulty first rows2 (e ∷ h)
   alive_next = record {
-    eight = ap length t.others ∙ length-set rows e.board e.after ∙ a.eight;
+    eight = ap length t.put ∙ length-set rows e.board e.after ∙ a.eight;
     sane = λ b o. ⊎_elim
         (λ same. subst (Sane b) (sym (row_here b same).1) (subst (λ n. Sane n e.after) (sym same) this.plays.sane))
         (λ other. subst (Sane b) (sym (row_else b other)) (a.sane b o))
@@ -153,14 +153,14 @@ module _ {S : Type 0} (g : Ghosts S) (faulty first : ℕ) (rows rows2 : List Sta
     word = word_after;
   }
 
-alive_begins : (faulty first : ℕ) (rows : List State) → 1 ≤ size first → Started first rows → Alive faulty first rows []
-alive_begins faulty first rows some st = record {
-  eight = st.0;
-  sane = λ b o. subst (Sane b) (sym (st.1 b o.0)) (sane_begins b first);
+alive_begins : (faulty first : ℕ) (rows : List State) → Started first rows → Alive faulty first rows []
+alive_begins faulty first rows st = record {
+  eight = st.1;
+  sane = λ b o. subst (Sane b) (sym (st.2 b o.0)) (sane_begins b first);
   lived = record {
     laws = λ b o.
         subst (LawsOfRow first (core (row_of rows b))) (sym (deeds_none b))
-        (subst (λ s. LawsOfRow first (core s) []) (sym (st.1 b o.0)) (laws_begin first _ (core_begins b first) some));
+        (subst (λ s. LawsOfRow first (core s) []) (sym (st.2 b o.0)) (laws_begin first _ (core_begins b first) st.0));
     caused = λ b d o p. absurd (subst (λ l. Has l d) (deeds_none b) p);
   };
   past = λ b d o p. absurd (subst (λ l. Has l d) (deeds_none b) p);
@@ -168,6 +168,6 @@ alive_begins faulty first rows some st = record {
 }
 
 pub lives : {S : Type 0} (g : Ghosts S) (faulty first : ℕ) (start : List State) {rows : List State} {h : List Step}
-    → 1 ≤ size first → Started first start → Leads g faulty start rows h → Vouched faulty h → Alive faulty first rows h
-lives g faulty first start some st Leads.begin v = alive_begins faulty first start some st
-lives g faulty first start some st (Leads.next {rows} {rows2} {h} run e t) v = alive_next g faulty first rows rows2 h e (lives g faulty first start some st run v.0) t v.1
+    → Started first start → Leads g faulty start rows h → Vouched faulty h → Alive faulty first rows h
+lives g faulty first start st Leads.begin v = alive_begins faulty first start st
+lives g faulty first start st (Leads.next {rows} {rows2} {h} run e t) v = alive_next g faulty first rows rows2 h e (lives g faulty first start st run v.0) t v.1

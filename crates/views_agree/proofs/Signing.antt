@@ -5,7 +5,6 @@ use Rattle.std.proofs.lemmas.Bool.{and_parts, eqb-true, leb-true}
 use Rattle.boards.specs.Boards.{member}
 use Rattle.codes.specs.declared.Refusal.{Refusal}
 use Rattle.schemes.specs.declared.Scheme.{Ghosts}
-use Rattle.schemes.specs.Meaning.{Signed as SignedGood}
 use Rattle.wire.specs.Messages.{Msg, kind}
 use Rattle.wire.specs.Acts.{Act, Allowed, words}
 use Rattle.wire.proofs.Answered.{words_tell}
@@ -13,7 +12,7 @@ use Rattle.row.specs.declared.state.State.{State}
 use Rattle.row.specs.declared.state.Sent.{Sent}
 use Rattle.row.specs.States.{insert, latest, manager}
 use Rattle.row.specs.Effects.{Effect, Outcome, lone, trusted, deputises, notifies}
-use Rattle.row.specs.Calls.{Posted, Done, Called}
+use Rattle.row.specs.Calls.{Posted, Signs as Sends, Done, Called}
 use Rattle.views_agree.specs.Agreement.{Call, Step, Promised, Signs}
 use Rattle.views_agree.specs.Grounds.{SignedWasHanded}
 use Rattle.views_agree.proofs.Deeds.{Vote, Deed, Did, NotifiedIn, DeputisedIn}
@@ -219,11 +218,17 @@ module _ {S : Type 0} (g : Ghosts S) where
       let z = signing_step e s s2 p w h in
       let f = z.effect in
       let d : Done g e.before.board (Effect.signs f.to f.act f.proof f.acks) e.offered s z.sent s2 e.written =
-      subst (λ y. Done g e.before.board y e.offered s z.sent s2 e.written) f.is z.done in (
-        d.tag,
-        subst (λ b. SignedGood (g.good s) (g.good s2) (g.spent s) b w d.tag) same
-            (subst (λ y. SignedGood (g.good s) (g.good s2) (g.spent s) e.before.board y d.tag) (sym f.told) d.signed),
-      )
+      subst (λ y. Done g e.before.board y e.offered s z.sent s2 e.written) f.is z.done in
+      record {
+        act = f.act;
+        words = f.told;
+        to = f.to;
+        proof = f.proof;
+        acks = f.acks;
+        sent = z.sent;
+        accepted = z.ok;
+        signs = subst (λ b. Sends g b f.to f.act f.proof f.acks e.offered s z.sent s2 e.written) same d;
+      }
 
 -- An allowed act whose words a deed signed is what the deed does.
 pub told_act : (a : Act) (o : Option Deed) (l : List Deed) → Allowed a → (z : SignedDeed o (words a)) → Fits z.deed → DoneAct (z.deed ∷ l) a

@@ -40,12 +40,12 @@ module _ {S : Type 0} (g : Ghosts S) (faulty first : ℕ) where
       let r = in_range (row_of rows b).views x w p.0 p.1 in
       bound b x w o ((onward g faulty first rows rows2 h e a t v b).stay x r.1 ∙ p.0, p.1)
 
-  module _ (start : List State) (some : 1 ≤ size first) (st : Started first start) where
+  module _ (start : List State) (st : Started first start) where
     earned : {rows : List State} {h : List Step} → Leads g faulty start rows h → Vouched faulty h → Bounded faulty rows
         → (b x : ℕ) → Outside faulty b → 1 ≤ x → x < latest (row_of rows b) → Earned faulty h b x (view_at rows b x) (view_at rows b (x + 1))
-    earned Leads.begin v bound b x o h1 h2 = absurd (omega (arith, h1, h2, ap latest (st.1 b o.0), begun_latest (the_set first)))
+    earned Leads.begin v bound b x o h1 h2 = absurd (omega (arith, h1, h2, ap latest (st.2 b o.0), begun_latest (the_set first)))
     earned (Leads.next {rows} {rows2} {h} run e t) v bound b x o h1 h2 =
-        let a = lives g faulty first start some st run v.0 in
+        let a = lives g faulty first start st run v.0 in
         let before = bounded_before rows rows2 h e a t v.1 bound in
         ⊎_elim (λ old. earned_still g faulty first rows rows2 h e a t v.1 b x (earned run v.0 before b x o h1 old) old)
         (λ new. earned_now g faulty first rows rows2 h e a t v.1 b x o (few a before) h1 new h2) (cases_lt x (latest (row_of rows b)))
@@ -58,5 +58,5 @@ module _ {S : Type 0} (g : Ghosts S) (faulty first : ℕ) where
         subst (λ m. Earned faulty h b x m w) p.0 (subst (λ m. Earned faulty h b x (view_at rows b x) m) q.0 z)
 
 pub views_agree : {S : Type 0} (g : Ghosts S) → ViewsAgree g
-views_agree g faulty first start rows h some st run v bound =
-    (one_view (lives g faulty first start some st run v) bound, asked_for g faulty first start some st run v bound)
+views_agree g faulty first start rows h st run v bound =
+    (one_view (lives g faulty first start st run v) bound, asked_for g faulty first start st run v bound)

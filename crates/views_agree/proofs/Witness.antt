@@ -78,7 +78,7 @@ vote_taken st m rows to a f group proof may does ok board here = record {
   scheme = tt;
   scheme_after = tt;
   promised = (f, group, (subst (λ t. hear_refusal st m 128 t false ≡ None) (sym (all_good m f proof)) may, refl, signing_done (heard st m).1 st.board to a does board ok));
-  others = refl;
+  put = refl;
 }
 
 -- The messages: to take board 1 in, at rank 1 of view 1, with the tag of board 0.
@@ -187,7 +187,7 @@ asks_taken = record {
   scheme = tt;
   scheme_after = tt;
   promised = (refl, refl, signing_done (asked_in s0 1).1 0 (only (manager s0)) (Act.notify 1 1) refl refl (notify_allowed 1 (omega arith) (omega arith) 1 (omega arith)));
-  others = refl;
+  put = refl;
 }
 
 acks_taken : Taken trusting 0 acks rows1 rows2
@@ -206,7 +206,7 @@ changes_taken = record {
   scheme = tt;
   scheme_after = tt;
   promised = (change_formed, refl, (subst (λ t. hear_refusal s2 the_change 128 t false ≡ None) (sym (all_good the_change change_formed refl)) refl, refl, (record { answer = refl; bytes = refl }, refl)));
-  others = refl;
+  put = refl;
 }
 
 board_zero : only 0 ≡ 0x80
@@ -241,7 +241,7 @@ some_change = record {
   start = start;
   rows = rows4;
   history = changes ∷ readies ∷ acks ∷ asks ∷ [];
-  started = (refl, started);
+  started = (omega (arith, one_board), refl, started);
   leads = Leads.next (Leads.next (Leads.next (Leads.next Leads.begin asks asks_taken) acks acks_taken) readies readies_taken) changes changes_taken;
   vouched = (
     (

@@ -1,6 +1,6 @@
 -- The boards agree on their views: over whole histories of calls at eight rows, what is assumed and what then holds.
 -- A step of a history is what the call's own contract promises; how a row works is said nowhere again. Told in docs/AGREEMENT.md.
-use Rattle.std.specs.Prelude.{◌≡◌, ℕ, ◌+◌, ◌<◌, ◌≤◌, true, false, ◌⊎◌, List, [], ◌∷◌, ◌++◌, length, Ok, Err, Option, Result, bit_and, slice_index_or, slice_set}
+use Rattle.std.specs.Prelude.{◌≡◌, ℕ, ◌+◌, ◌<◌, ◌≤◌, true, false, ◌⊎◌, List, [], ◌∷◌, ◌++◌, length, Some, Ok, Err, Option, Result, bit_and, slice_index_or, slice_set}
 use Rattle.boards.specs.Boards.{member, size}
 use Rattle.codes.specs.declared.Refusal.{Refusal}
 use Rattle.views.specs.Shares.{share}
@@ -8,14 +8,12 @@ use Rattle.views.specs.Groups.{toggle}
 use Rattle.views.specs.Histories.{begun, members_of}
 use Rattle.schemes.specs.declared.Scheme.{Ghosts}
 use Rattle.wire.specs.Messages.{Msg, tag_bytes}
-use Rattle.wire.specs.Format.{Formed}
 use Rattle.wire.specs.Acts.{Act, words, signers, act_of, proof_of, proved_act}
 use Rattle.row.specs.declared.state.State.{State}
 use Rattle.row.specs.declared.state.Sent.{Sent}
 use Rattle.row.specs.States.{the_set, latest, fresh}
-use Rattle.row.specs.Refusals.{of_group}
 use Rattle.row.specs.Effects.{lone}
-use Rattle.row.specs.Calls.{Posted, AsksOut, AsksIn, Hears}
+use Rattle.row.specs.Calls.{Posted, AsksOut, AsksIn, HeardAny}
 
 -- A call of the membership layer: to ask a board out, to ask one in with this delivery view, to hear a message.
 pub data Call : Type 0 where
@@ -41,16 +39,16 @@ Outside faulty b = (b < 8) × (member faulty b ≡ false)
 abbrev pub row_of : List State → ℕ → State
 row_of rows b = slice_index_or rows b (fresh 0 (begun (the_set 0)))
 
--- Eight rows as a start makes them, all with the same view 1, those of outsiders too.
+-- Eight rows as a start makes them, all with the same view 1, which is not empty, those of outsiders too.
 abbrev pub Started : ℕ → List State → Type 0
-Started first rows = (length rows ≡ 8) × ((b : ℕ) → b < 8 → row_of rows b ≡ fresh b (begun (the_set first)))
+Started first rows = (1 ≤ size first) × (length rows ≡ 8) × ((b : ℕ) → b < 8 → row_of rows b ≡ fresh b (begun (the_set first)))
 
 module _ {S : Type 0} (g : Ghosts S) where
-  -- What the contract of a call promises, the scheme going from s to s2. A message that is heard is formed, and of kinds 1 to 10.
+  -- What the contract of a call promises, the scheme going from s to s2. A message that is heard has an answer: it is formed, and of kinds 1 to 10.
   abbrev pub Promised : Call → Step → S → S → Type 0
   Promised (Call.ask_out c) e s s2 = AsksOut g e.before s c e.offered e.answer e.after s2 e.written
   Promised (Call.ask_in c y) e s s2 = AsksIn g e.before s c y e.offered e.answer e.after s2 e.written
-  Promised (Call.hear m) e s s2 = Formed m × (of_group m ≡ true) × Hears g e.before s m e.offered e.answer e.after s2 e.written
+  Promised (Call.hear m) e s s2 = HeardAny g e.before s m e.offered (Some e.answer) e.after s2 e.written
 
   -- A step from eight rows to eight: at the row of a board outside the faulty ones, as promised for some states of the scheme; the other rows stay.
   pub record Taken (faulty : ℕ) (e : Step) (rows rows2 : List State) : Type 0 where
@@ -59,7 +57,7 @@ module _ {S : Type 0} (g : Ghosts S) where
     pub scheme : S
     pub scheme_after : S
     pub promised : Promised e.call e scheme scheme_after
-    pub others : rows2 ≡ slice_set rows e.board e.after
+    pub put : rows2 ≡ slice_set rows e.board e.after
 
   -- A history: steps, the latest first, that lead from the rows at the start to the rows as they are.
   pub data Leads (faulty : ℕ) (start : List State) : List State → List Step → Type 0 where
@@ -149,5 +147,5 @@ AskedFor faulty rows h = (b x v w : ℕ) → Outside faulty b → Defines rows b
 -- The theorem: in every history from a common start that is vouched for and bounded, views agree and were asked for.
 abbrev pub ViewsAgree : {S : Type 0} → Ghosts S → Type 0
 ViewsAgree g =
-    (faulty first : ℕ) (start rows : List State) (h : List Step) → 1 ≤ size first → Started first start → Leads g faulty start rows h
+    (faulty first : ℕ) (start rows : List State) (h : List Step) → Started first start → Leads g faulty start rows h
     → Vouched faulty h → Bounded faulty rows → OneView faulty rows × AskedFor faulty rows h
