@@ -1,24 +1,34 @@
--- Desks and numbers one by one: a test of each, and a row that is put where it was.
--- Lemmas of lists and of sets.
-use Rattle.std.proofs.Common.{◌≡◌, ℕ, zero, suc, ◌+◌, ◌<◌, ◌≤◌, Bool, true, false, not, ◌&&◌, leb, List, [], ◌∷◌, length, map, drop, get_or, set, sym, refl, ap, ◌∙◌, subst, arith, add-zero}
+-- Desks, pages and numbers one by one: what is put down where, a call at a desk as a step, a test of each.
+-- Lemmas of lists and of sets, and the two steps of a list of moves.
+use Rattle.std.proofs.Common.{◌≡◌, ℕ, zero, suc, ◌+◌, ◌<◌, ◌≤◌, Bool, true, false, not, ◌&&◌, leb, List, [], ◌∷◌, length, map, drop, get_or, set, Some, None, Ok, Err, Option, Result, true≢false, sym, refl, ap, ◌∙◌, subst, arith, add-zero}
 use lib.Bits.{bit_and}
-use Rattle.std.proofs.lemmas.List.{map-set, set-get_or, drop_more}
+use Rattle.std.proofs.lemmas.List.{map-set, set-get_or, get_or-map, drop_more}
 use Rattle.std.proofs.Math.ListN.{drop_of_length-le}
 use Rattle.std.proofs.Math.Bool.{and_assoc, and-true}
 use Rattle.std.proofs.lemmas.Bool.{and_parts, le-leb}
+use Rattle.std.specs.Option.{is_some}
+use Rattle.std.specs.Result.{result_ok}
 use Rattle.std.specs.List.{list_all, range_with_len}
 use Rattle.boards.specs.Boards.{every, member, size, Minus}
 use Rattle.boards.proofs.Chosen.{every_next}
 use Rattle.boards.proofs.Members.{member_and}
 use Rattle.boards.proofs.Sets.{size_same, within_size}
 use Rattle.views.specs.Shares.{share}
+use Rattle.grammar.specs.declared.fault.Fault.{Fault}
+use Rattle.wire.specs.declared.message.Message.{Message}
+use Rattle.wire.specs.Messages.{meaning}
+use Rattle.wire.specs.Format.{Formed, form}
+use Rattle.wire.specs.Reads.{Reads}
+use Rattle.reader.specs.Told.{told as answer}
 use Rattle.schemes.specs.declared.register.Register.{Register}
 use Rattle.views_agree.specs.Agreement.{Step, Outside, row_of, Promised}
+use Rattle.row.specs.declared.row.Row.{Row}
+use Rattle.bench.specs.declared.desk.Page.{Page}
 use Rattle.bench.specs.declared.desk.Desk.{Desk}
 use Rattle.bench.specs.declared.desk.Bench.{Bench}
 use Rattle.bench.specs.declared.story.Move.{Move}
-use Rattle.bench.specs.Story.{over_register}
-use Rattle.bench.specs.Moves.{states, Placed, Made, Moved, Played}
+use Rattle.bench.specs.Story.{over_register, blank, page_of, turned}
+use Rattle.bench.specs.Moves.{states, pages, Put, Called, Moved, Played}
 use Rattle.bench.specs.Ends.{few_faulty}
 
 -- The numbers from a on, n of them.
@@ -44,15 +54,41 @@ same_row ds k d is =
     sym (map-set row ds k d) ∙ ap (map row) (ap (set ds k) is ∙ set-get_or ds k d)
 
 -- A call at the row of a desk, with what it left put down there, is a step.
-pub made : (b : Bench) (e : Step) (register : Register) (b2 : Bench) → Outside b.faulty.bits e.board → e.before ≡ row_of (states b.desks) e.board
-    → Promised over_register e.call e b.register register → Placed (record { faulty = b.faulty; desks = b.desks; register = register }) e.board e.after b2 → Made b e b2
-made b e register b2 outside here promised put = record {
+pub made : (b : Bench) (e : Step) (register : Register) (page page2 : Page) (b2 : Bench) → Outside b.faulty.bits e.board → e.before ≡ row_of (states b.desks) e.board
+    → e.offered ≡ page.bytes → page ≡ page_of (pages b.desks) e.board → Promised over_register e.call e b.register register
+    → page2 ≡ turned e.written e.answer page → Put (record { faulty = b.faulty; desks = b.desks; register = register }) e.board e.after page2 b2 → Called b e b2
+made b e register page page2 b2 outside before offered is promised turns put = record {
   outside = outside;
-  here = here;
+  before = before;
+  offered = offered ∙ ap (λ (p : Page). p.bytes) is;
   promised = subst (Promised over_register e.call e b.register) (sym put.register) promised;
-  others = put.states;
+  states = put.states;
+  pages = put.pages ∙ ap (set (pages b.desks) e.board) (turns ∙ ap (turned e.written e.answer) is);
   faulty = put.faulty;
 }
+
+-- A row and a page that are put down at a desk.
+pub put_down : (b : Bench) (j k : ℕ) (row : Row) (page : Page) → j ≡ k
+    → Put b k row.state page (record { faulty = b.faulty; desks = set b.desks j (record { row = row; page = page }); register = b.register })
+put_down b j k row page same = record {
+  states = map-set (λ (z : Desk). z.row.state) b.desks j (record { row = row; page = page }) ∙ ap (λ (i : ℕ). set (states b.desks) i row.state) same;
+  pages = map-set (λ (z : Desk). z.page) b.desks j (record { row = row; page = page }) ∙ ap (λ (i : ℕ). set (pages b.desks) i page) same;
+  register = refl;
+  faulty = refl;
+}
+
+-- The page of a desk that was looked up.
+pub desk_page : (ds : List Desk) (k j : ℕ) (d : Desk) → k ≡ j → k < length ds → d ≡ get_or ds k d → d.page ≡ page_of (pages ds) j
+desk_page ds k j d same l is = ap (λ (z : Desk). z.page) is ∙ sym (get_or-map (λ (z : Desk). z.page) ds k d blank l) ∙ ap (page_of (pages ds)) same
+
+-- What a frame is read as.
+pub read_frame : (bs bs2 : List ℕ) (r : Result Message Fault) (m : Message) → bs ≡ bs2 → Reads bs (answer r) → Some m ≡ result_ok r → Formed (meaning m) × (bs2 ≡ form (meaning m))
+read_frame bs bs2 (Ok x) m same h is = subst (λ (z : Message). Formed (meaning z) × (bs2 ≡ form (meaning z))) (sym (ap from is)) (h.0, sym same ∙ h.1)
+  where
+    from : Option Message → Message
+    from None = m
+    from (Some z) = z
+read_frame bs bs2 (Err e) m same h is = absurd (true≢false (ap is_some is))
 
 -- One move more of those that are left, and none.
 pub more_left : (ms : List Move) (k : ℕ) (d : Move) (b b2 end : Bench) → k < length ms → Moved b (get_or ms k d) b2 → Played (drop (k + 1) ms) b2 end → Played (drop k ms) b end

@@ -2,7 +2,7 @@
 // A move that cannot be made ends the play; a call that is refused is made all the same.
 ghost use Rattle.std.specs.Prelude.{◌≡◌, ⊤, MatchOption};
 ghost use Rattle.bench.specs.declared.story.Move.TheVariants.{AskOut, AskIn, Hear};
-ghost use Rattle.bench.specs.Moves.{Stepped, Lied, Moved, Played};
+ghost use Rattle.bench.specs.Moves.{ByCall, FaultySigned, Moved, Played};
 
 use crate::desk::{Bench, Desk};
 use crate::story::Move;
@@ -15,7 +15,7 @@ use words::statement::Statement;
 impl Bench<'_> {
     // Asks for a member to leave.
     fn ask_out(&mut self, at: u8, change: u8) -> Option<()>
-        ensures { MatchOption result ⊤ (λ _. Stepped self.old (AskOut at change) self.new) }
+        ensures { MatchOption result ⊤ (λ _. ByCall self.old (AskOut at change) self.new) }
     {
         let Desk { mut row, mut page } = self.desk(at)?;
         let answer = calls::ask_out(&mut row, &mut self.register, change, &mut page.bytes);
@@ -25,7 +25,7 @@ impl Bench<'_> {
 
     // Asks for a board to join, with reports delivered in the row's latest view.
     fn ask_in(&mut self, at: u8, change: u8) -> Option<()>
-        ensures { MatchOption result ⊤ (λ _. Stepped self.old (AskIn at change) self.new) }
+        ensures { MatchOption result ⊤ (λ _. ByCall self.old (AskIn at change) self.new) }
     {
         let Desk { mut row, mut page } = self.desk(at)?;
         let delivery = Some(row.latest());
@@ -42,7 +42,7 @@ impl Bench<'_> {
 
     // Hears what a board wrote last.
     fn hear(&mut self, at: u8, from: u8) -> Option<()>
-        ensures { MatchOption result ⊤ (λ _. Stepped self.old (Hear at from) self.new) }
+        ensures { MatchOption result ⊤ (λ _. ByCall self.old (Hear at from) self.new) }
     {
         let Desk { mut row, mut page } = self.desk(at)?;
         let heard = self.desks.get(usize::from(from))?.page;
@@ -54,7 +54,7 @@ impl Bench<'_> {
 
     // A faulty board signs a statement and writes it on its page.
     fn sign(&mut self, board: u8, said: Statement<'_>) -> Option<()>
-        ensures { MatchOption result ⊤ (λ _. Lied self.old self.new) }
+        ensures { MatchOption result ⊤ (λ _. FaultySigned self.old board said.entry self.new) }
     {
         if !self.faulty.has(board) {
             return None;

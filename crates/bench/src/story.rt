@@ -2,12 +2,12 @@
 // Each board writes on its own page; to hear from a board is to read the frame that it wrote last.
 ghost use Rattle.std.specs.Prelude.{◌≡◌, Bool, true, ◌&&◌, ◌||◌};
 ghost use Rattle.bench.specs.Story.{Story};
-ghost use Rattle.bench.specs.Ends.{few_faulty, few_in_all, ends};
+ghost use Rattle.bench.specs.Ends.{few_faulty, few_in_all, arrived, ends};
 
 use crate::desk::Bench;
 use boards::Set;
 use row::row::Row;
-use schemes::register::Entry as Kept;
+use schemes::register::Entry as Blank;
 use views::view::View;
 use wire::message::Entry;
 use words::statement::{Claim, Statement};
@@ -42,7 +42,7 @@ pub const STORY: [Move; 67] = [
         },
     },
     Move::Hear { at: 4, from: 1 },
-    // Readies of the same boards: the manager makes the change, and all rows hear it, those of boards 5, 6 and 7 outside too.
+    // Readies of the same boards: the manager makes the change, and all rows but the faulty board's hear it, those of boards 5, 6 and 7 outside too.
     Move::Hear { at: 0, from: 4 },
     Move::Hear { at: 2, from: 4 },
     Move::Hear { at: 4, from: 4 },
@@ -131,10 +131,12 @@ pub const STORY: [Move; 67] = [
     Move::Hear { at: 2, from: 2 },
 ];
 
-// The boards of view 1, the faulty one, and the group at the end.
+// The boards of view 1, the faulty one, and the groups of views 2 and 3.
 const FIRST: Set = Set { bits: 0xF8 };
 
 const FAULTY: Set = Set { bits: 0x40 };
+
+const SECOND: Set = Set { bits: 0xE8 };
 
 const THIRD: Set = Set { bits: 0xEC };
 
@@ -155,15 +157,22 @@ fn few_in_all(row: &Row, faulty: Set) -> bool
     (0..65).all(|x| few_faulty(row.members(x), faulty))
 }
 
-// Whether a row ended as it should: with few faulty members in its views, and, unless its board is faulty, with the third view.
+// Whether a row came to view 3 by the groups of the story.
+fn arrived(row: &Row) -> bool
+    ensures { result ≡ arrived row.now.state }
+{
+    row.latest() == 3 && row.members(2) == SECOND && row.members(3) == THIRD
+}
+
+// Whether a row ended as it should: with few faulty members in its views, and, unless its board is faulty, in view 3.
 fn ends(row: &Row) -> bool
     ensures { result ≡ ends row.now.state }
 {
-    few_in_all(row, FAULTY) && (FAULTY.has(row.board()) || row.members(3) == THIRD)
+    few_in_all(row, FAULTY) && (FAULTY.has(row.board()) || arrived(row))
 }
 
 // Plays moves over a register in this memory, and answers whether all could be made and all rows ended as those of the story should.
-pub fn story(moves: &[Move], entries: &mut [Kept]) -> bool
+pub fn story(moves: &[Move], entries: &mut [Blank]) -> bool
     ensures { result ≡ true → Story moves.now }
 {
     let Ok(first) = View::try_from(FIRST) else {
@@ -175,26 +184,26 @@ pub fn story(moves: &[Move], entries: &mut [Kept]) -> bool
 
 #[cfg(test)]
 mod tests {
-    use super::{Claim, Kept, Move, STORY, Statement, story};
+    use super::{Blank, Claim, Move, STORY, Statement, story};
 
     // The story can be told, and ends as it should.
     #[test]
     fn story_is_told(rt: HostRuntime) {
-        let mut entries = [Kept::blank(); 64];
+        let mut entries = [Blank::blank(); 64];
         assert!(rt; story(&STORY, &mut entries));
     }
 
     // Without its last move it does not: one row is still in view 2.
     #[test]
     fn story_without_its_end_is_not(rt: HostRuntime) {
-        let mut entries = [Kept::blank(); 64];
+        let mut entries = [Blank::blank(); 64];
         assert!(rt; !story(&STORY[..66], &mut entries));
     }
 
     // A board that is not faulty signs by its own calls alone.
     #[test]
     fn board_0_is_not_signed_for(rt: HostRuntime) {
-        let mut entries = [Kept::blank(); 64];
+        let mut entries = [Blank::blank(); 64];
         let said = Statement {
             view: 1,
             claim: Claim::Notify { change: 3 },

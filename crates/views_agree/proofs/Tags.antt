@@ -144,6 +144,10 @@ started_seated g faulty first start rows2 (e ∷ h) st (Leads.next {rows} run _ 
           (cases_eq b e.board),
     )
 
+-- There stay eight rows.
+pub eight_rows : {S : Type 0} (g : Ghosts S) (faulty first : ℕ) (start rows : List State) (h : List Step) → Started first start → Leads g faulty start rows h → length rows ≡ 8
+eight_rows g faulty first start rows h st run = (started_seated g faulty first start rows h st run).0
+
 module _ {S : Type 0} (g : Ghosts S) where
   pub tags_vouch : TagsVouch g
   tags_vouch = record {

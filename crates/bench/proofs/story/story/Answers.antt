@@ -15,5 +15,5 @@ pub returns-then-is_some : goal.returns-then-is_some
 returns-then-is_some c = λ yes.
     let all = all_from_yields_List (λ (d : Desk). ends d.row.state) _ _ c.all.result c.all.ensures.ran (YieldsList-from_slice c.played.new.self.desks c.iter.ensures.rest) (λ x r q k. search (rules, tests)) in
     told c.args.moves.now c.start-bench.result c.played.new.self
-    (subst (λ (s : Set). Started s.bits (states c.start-bench.result.desks)) c.in-Ok.ensures c.start-bench.ensures.rows)
+    (subst (λ (s : Set). Started s.bits (states c.start-bench.result.desks)) c.in-Ok.ensures c.start-bench.ensures.rows) c.start-bench.ensures.pages
     (ap (λ (s : Set). s.bits) c.start-bench.ensures.faulty) c.start-bench.ensures.empty (was_some c.played.result c.if-is_some.ensures c.played.ensures) (sym all ∙ yes)

@@ -16,4 +16,4 @@ returns c =
       before = c.in_ok-row.field-0.row.state;
       after = c.ask_out-answer.new.row.state;
     } in
-    (e, (refl, refl), made c.args.self.now e c.ask_out-answer.new.scheme c.put.new.self c.in_ok-row.ensures.0 c.in_ok-row.ensures.1 c.ask_out-answer.ensures c.put.ensures)
+    (e, (refl, refl), made c.args.self.now e c.ask_out-answer.new.scheme c.in_ok-row.field-0.page c.after.result c.put.new.self c.in_ok-row.ensures.0 c.in_ok-row.ensures.1 refl c.in_ok-row.ensures.2 c.ask_out-answer.ensures c.after.ensures c.put.ensures)
