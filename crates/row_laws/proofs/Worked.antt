@@ -15,7 +15,7 @@ use Rattle.wire.specs.Format.{Formed, set_values, reply_values, replies_values}
 use Rattle.wire.specs.Acts.{Act, lowest}
 use Rattle.wire.specs.Examples.{kept}
 use Rattle.row.specs.States.{latest_members, highest}
-use Rattle.row_examples.specs.Examples.{five, four, two, tags, told, the_suggest, proposal_of, the_query, one_kept, none_kept, refused, Leaves, Answers, new, suggested, proposed, queried, Examples}
+use Rattle.row_laws.specs.Examples.{five, four, two, tags, told, the_suggest, proposal_of, the_query, one_kept, none_kept, refused, Leaves, Answers, new, suggested, proposed, queried, Examples}
 
 -- What holds of boards 0 to 4 holds of every member of the view.
 each : (P : ℕ → Type 0) → P 0 → P 1 → P 2 → P 3 → P 4 → (b : ℕ) → member five b ≡ true → P b

@@ -1,3 +1,0 @@
--- The examples, worked out.
--- One file: Worked.
-pub mod Worked
