@@ -25,9 +25,6 @@ fn trusted(row: &Row, suspects: Set) -> u8
     view.set().minus(suspects).boards().next_back().unwrap()
 }
 
-// Row, scheme and bytes stay three parameters, as in crate `voting`: of a struct of three `&mut` each contract would have to name
-// what lies behind every field. Boards and ranks are plain numbers as there: the rules compare them with 0 and with n.
-
 // A notify to the manager; it is all that an ask for a board to join does.
 pub(crate) fn notify<S: Scheme>(row: &Row, scheme: &mut S, change: u8, out: &mut [u8]) -> Sent
     requires able { Able S.Scheme scheme.old out.old }

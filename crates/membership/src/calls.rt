@@ -15,8 +15,6 @@ use schemes::Scheme;
 use voting::votes;
 use wire::message::{Body, Message};
 
-// Row, scheme and bytes stay three parameters, as in crate `voting`: a struct of three `&mut` would make each contract longer.
-
 // Asks for another member to leave.
 pub fn ask_out<S: Scheme>(
     row: &mut Row,
@@ -30,7 +28,7 @@ pub fn ask_out<S: Scheme>(
     Ok(asked_out(row, scheme, c, out))
 }
 
-// Asks for a board to join; `delivery` is the view in which reports are delivered.
+// Asks for a board to join; `delivery` is the view in which reports are delivered, `None` where they are delivered in no view yet.
 pub fn ask_in<S: Scheme>(
     row: &mut Row,
     scheme: &mut S,

@@ -1,6 +1,6 @@
 -- What an accepted call does at a row: the next state, and what is sent to whom.
 -- Votes (answers to certificates) are signed; counts of lone messages become certificates; a change makes the next view.
-use Rattle.std.specs.Prelude.{ℕ, ◌+◌, ◌-◌, ◌*◌, ◌%◌, Bool, cond, not, ◌&&◌, ◌||◌, List, [], ◌∷◌, Some, ◌==◌, nat_le, nat_lt, slice_set}
+use Rattle.std.specs.Prelude.{ℕ, ◌+◌, ◌-◌, ◌*◌, ◌%◌, Bool, cond, not, ◌&&◌, ◌||◌, List, [], ◌∷◌, Some, ◌==◌, nat_le, slice_set}
 use Rattle.boards.specs.Boards.{member, size, place, only}
 use Rattle.views.specs.Histories.{grown}
 use Rattle.views.specs.Shares.{share, quorum}

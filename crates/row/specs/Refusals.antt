@@ -1,5 +1,5 @@
 -- Why a call at a row is refused: each reason is a test of its own, and the answer is the first that holds, in the order of docs/REFUSALS.md.
--- Messages of kinds 11 to 13 are not of this layer; no test speaks of them.
+-- Messages of kinds 11 to 13 are not of this layer; each test is false of them.
 use Rattle.std.specs.Prelude.{◌≡◌, ℕ, ◌+◌, ◌-◌, ◌*◌, Bool, true, false, cond, not, ◌&&◌, ◌||◌, List, [], ◌∷◌, ◌++◌, Some, None, Option, Ok, Err, Result, ◌==◌, nat_le, nat_lt, slice_index_or}
 use Rattle.boards.specs.Boards.{member, size, place, only}
 use Rattle.codes.specs.declared.Refusal.{Refusal}
@@ -27,6 +27,10 @@ Unless why (Err e) = why ≡ Some e
 abbrev pub short : ℕ → Bool
 short room = nat_lt room 128
 
+-- BOARD: there is no such board.
+abbrev pub no_board : ℕ → Bool
+no_board c = nat_le 8 c
+
 -- VIEW: the message is not for the row's latest view.
 abbrev pub other_view : State → Msg → Bool
 other_view s m = not (view_of m == latest s)
@@ -43,22 +47,30 @@ misplaced k n e = not (e.earlier == 0) && (nat_le e.earlier k || nat_lt n e.earl
 abbrev pub entry_in : ℕ → List Reply → ℕ → Entry
 entry_in s es b = (slice_index_or es (place s b) no_reply).entry
 
+-- MEMBER of an ask: the row's board is not in the view.
+abbrev pub outsider : State → Bool
+outsider s = not (inside s)
+
 -- MEMBER: the row's board (but in a change), a speaker, a set, a proof's set or the rank is not in the view; rank n in kinds 7 to 10; an earlier rank is misplaced.
 abbrev pub stranger : State → Msg → Bool
-stranger s (Msg.notify v c b t) = not (inside s) || strays (only b) (group s)
-stranger s (Msg.suggest v c a t) = not (inside s) || strays a (group s)
-stranger s (Msg.ack v k c b t) = not (inside s) || (strays (only b) (group s) || nat_lt (many s) k)
-stranger s (Msg.proposal v k c a t) = not (inside s) || (strays a (group s) || nat_lt (many s) k)
-stranger s (Msg.ready v k c b t) = not (inside s) || (strays (only b) (group s) || nat_lt (many s) k)
+stranger s (Msg.notify v c b t) = outsider s || strays (only b) (group s)
+stranger s (Msg.suggest v c a t) = outsider s || strays a (group s)
+stranger s (Msg.ack v k c b t) = outsider s || (strays (only b) (group s) || nat_lt (many s) k)
+stranger s (Msg.proposal v k c a t) = outsider s || (strays a (group s) || nat_lt (many s) k)
+stranger s (Msg.ready v k c b t) = outsider s || (strays (only b) (group s) || nat_lt (many s) k)
 stranger s (Msg.change v k c a t) = strays a (group s) || nat_lt (many s) k
-stranger s (Msg.deputy v k b t) = not (inside s) || (strays (only b) (group s) || nat_le (many s) k)
-stranger s (Msg.query v k a t) = not (inside s) || (strays a (group s) || nat_le (many s) k)
-stranger s (Msg.last v k b e p ak) = not (inside s) || (strays (only b) (group s) || (strays p (group s) || (nat_le (many s) k || misplaced k (many s) e.entry)))
+stranger s (Msg.deputy v k b t) = outsider s || (strays (only b) (group s) || nat_le (many s) k)
+stranger s (Msg.query v k a t) = outsider s || (strays a (group s) || nat_le (many s) k)
+stranger s (Msg.last v k b e p ak) = outsider s || (strays (only b) (group s) || (strays p (group s) || (nat_le (many s) k || misplaced k (many s) e.entry)))
 stranger s (Msg.suggest_last v k a es p ak) =
-    not (inside s) || (strays a (group s) || (strays p (group s) || (nat_le (many s) k || any (λ b. member a b && misplaced k (many s) (entry_in a es b)) 8)))
+    outsider s || (strays a (group s) || (strays p (group s) || (nat_le (many s) k || any (λ b. member a b && misplaced k (many s) (entry_in a es b)) 8)))
 stranger s (Msg.init v b n k p t) = false
 stranger s (Msg.echo v b n k p d t) = false
 stranger s (Msg.commit v b n k p a t) = false
+
+-- There is no view after the 64th.
+abbrev pub no_view_left : State → Bool
+no_view_left s = nat_le 64 (latest s)
 
 -- The change would remove the only member.
 abbrev pub empties : State → ℕ → Bool
@@ -66,16 +78,16 @@ empties s c = many s == 1 && member (group s) c
 
 -- CHANGE: there is no view after the 64th, and kinds 1 to 6 do not remove the only member.
 abbrev pub barred : State → Msg → Bool
-barred s (Msg.notify v c b t) = nat_le 64 (latest s) || empties s c
-barred s (Msg.suggest v c a t) = nat_le 64 (latest s) || empties s c
-barred s (Msg.ack v k c b t) = nat_le 64 (latest s) || empties s c
-barred s (Msg.proposal v k c a t) = nat_le 64 (latest s) || empties s c
-barred s (Msg.ready v k c b t) = nat_le 64 (latest s) || empties s c
-barred s (Msg.change v k c a t) = nat_le 64 (latest s) || empties s c
-barred s (Msg.deputy v k b t) = nat_le 64 (latest s)
-barred s (Msg.query v k a t) = nat_le 64 (latest s)
-barred s (Msg.last v k b e p ak) = nat_le 64 (latest s)
-barred s (Msg.suggest_last v k a es p ak) = nat_le 64 (latest s)
+barred s (Msg.notify v c b t) = no_view_left s || empties s c
+barred s (Msg.suggest v c a t) = no_view_left s || empties s c
+barred s (Msg.ack v k c b t) = no_view_left s || empties s c
+barred s (Msg.proposal v k c a t) = no_view_left s || empties s c
+barred s (Msg.ready v k c b t) = no_view_left s || empties s c
+barred s (Msg.change v k c a t) = no_view_left s || empties s c
+barred s (Msg.deputy v k b t) = no_view_left s
+barred s (Msg.query v k a t) = no_view_left s
+barred s (Msg.last v k b e p ak) = no_view_left s
+barred s (Msg.suggest_last v k a es p ak) = no_view_left s
 barred s (Msg.init v b n k p t) = false
 barred s (Msg.echo v b n k p d t) = false
 barred s (Msg.commit v b n k p a t) = false
@@ -217,21 +229,31 @@ seal_reasons m genuine spent = (not genuine, Tag) ∷ (answered m && spent, Spen
 abbrev pub hear_refusal : State → Msg → ℕ → Bool → Bool → Option Refusal
 hear_refusal s m room genuine spent = first_of (fit_reasons s m room ++ seal_reasons m genuine spent)
 
--- An ask-out of c: c is another member.
+-- CHANGE of an ask-out, unless no view is left: c is not another member.
+abbrev pub not_another : State → ℕ → Bool
+not_another s c = not (member (group s) c) || c == s.board
+
+-- An ask-out of c.
 abbrev pub out_refusal : State → ℕ → ℕ → Bool → Option Refusal
 out_refusal s c room spent =
-    first_of (
-    (nat_le 8 c, Board) ∷ (short room, Out) ∷ (not (inside s), Member)
-    ∷ (nat_le 64 (latest s) || (not (member (group s) c) || c == s.board), Change) ∷ (spent, Spent) ∷ [])
+    first_of ((no_board c, Board) ∷ (short room, Out) ∷ (outsider s, Member) ∷ (no_view_left s || not_another s c, Change) ∷ (spent, Spent) ∷ [])
+
+-- CHANGE of an ask-in, unless no view is left: c is a member.
+abbrev pub not_outside : State → ℕ → Bool
+not_outside s c = member (group s) c
 
 -- The delivery view is the latest view.
 abbrev pub delivers : State → Option ℕ → Bool
 delivers s None = false
 delivers s (Some y) = y == latest s
 
--- An ask-in of c: c is no member, the delivery view is the latest, and the manager is not suspect.
+-- TURN of an ask-in: reports are not delivered in the latest view, or the manager is suspect.
+abbrev pub untimely_ask : State → Option ℕ → Bool
+untimely_ask s y = not (delivers s y) || member s.voter.suspects.bits (manager s)
+
+-- An ask-in of c; y is the delivery view, if reports are delivered in one.
 abbrev pub in_refusal : State → ℕ → Option ℕ → ℕ → Bool → Option Refusal
 in_refusal s c y room spent =
     first_of (
-    (nat_le 8 c, Board) ∷ (short room, Out) ∷ (not (inside s), Member) ∷ (nat_le 64 (latest s) || member (group s) c, Change)
-    ∷ (not (delivers s y) || member s.voter.suspects.bits (manager s), Turn) ∷ (spent, Spent) ∷ [])
+    (no_board c, Board) ∷ (short room, Out) ∷ (outsider s, Member) ∷ (no_view_left s || not_outside s c, Change) ∷ (untimely_ask s y, Turn)
+    ∷ (spent, Spent) ∷ [])
