@@ -15,11 +15,11 @@ use Rattle.row.specs.Calls.{Called}
 use Rattle.row_laws.specs.Laws.{Goes}
 
 -- Of a list that gives no answer no reason holds.
-goes_on : (t : Bool) (e : Refusal) (rest : Option Refusal) → cond t (Some e) rest ≡ None → (t ≡ false) × (rest ≡ None)
+pub goes_on : (t : Bool) (e : Refusal) (rest : Option Refusal) → cond t (Some e) rest ≡ None → (t ≡ false) × (rest ≡ None)
 goes_on true e rest h = absurd cc
 goes_on false e rest h = (refl, h)
 
-none_holds : (rs : List (Bool × Refusal)) → first_of rs ≡ None → (i : ℕ) → (get_or rs i (false, Late)).0 ≡ false
+pub none_holds : (rs : List (Bool × Refusal)) → first_of rs ≡ None → (i : ℕ) → (get_or rs i (false, Late)).0 ≡ false
 none_holds [] h i = refl
 none_holds (r ∷ rs) h zero = (goes_on r.0 r.1 (first_of rs) h).0
 none_holds (r ∷ rs) h (suc i) = none_holds rs (goes_on r.0 r.1 (first_of rs) h).1 i

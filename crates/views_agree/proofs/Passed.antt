@@ -1,19 +1,14 @@
 -- What a call that was not refused says: none of the reasons in its list holds.
 -- Only what the argument rests on is drawn from the lists; that the tags are good is drawn for its callers, and is no part of it.
-use Rattle.std.proofs.Common.{◌≡◌, ℕ, ◌<◌, Bool, true, false, cond, not, ◌&&◌, ◌||◌, eqb, leb, List, [], ◌∷◌, ◌++◌, Some, None, Option, refl, ⊎_elim, arith}
+use Rattle.std.proofs.Common.{◌≡◌, ℕ, ◌<◌, Bool, true, false, not, ◌&&◌, ◌||◌, eqb, leb, ◌++◌, None, Option, ⊎_elim}
 use Rattle.std.proofs.lemmas.Bool.{or_parts, and_cases, not-false, eqb-true, eqb-false, leb-false, both_ways}
 use Rattle.boards.specs.Boards.{member, Within}
-use Rattle.codes.specs.declared.Refusal.{Refusal}
-use Rattle.codes.specs.declared.Refusal.TheVariants.{Tag}
 use Rattle.wire.specs.Messages.{Msg, view_of}
 use Rattle.row.specs.declared.state.State.{State}
 use Rattle.row.specs.States.{latest, group, many, inside}
-use Rattle.row.specs.Refusals.{first_of, strays, empties, stranger, barred, late, misfit, fit_reasons, seal_reasons, hear_refusal, out_refusal, in_refusal}
+use Rattle.row.specs.Refusals.{strays, empties, stranger, barred, late, misfit, fit_reasons, seal_reasons, hear_refusal, out_refusal, in_refusal}
 use Rattle.boards.proofs.Chosen.{any_none}
-
-clear : (t : Bool) (e : Refusal) (rest : Option Refusal) → cond t (Some e) rest ≡ None → (t ≡ false) × (rest ≡ None)
-clear true e rest h = let z : ◌≡◌ {A = ℕ} 0 1 = cc in absurd (omega arith)
-clear false e rest h = (refl, h)
+use Rattle.row_laws.proofs.Calls.{goes_on, none_holds}
 
 -- A message was heard at a row.
 pub record TakenUp (s : State) (m : Msg) : Type 0 where
@@ -25,25 +20,12 @@ pub record TakenUp (s : State) (m : Msg) : Type 0 where
 
 pub taken_up : (s : State) (m : Msg) (room : ℕ) (genuine spent : Bool) → hear_refusal s m room genuine spent ≡ None → TakenUp s m
 taken_up s m room genuine spent h =
-    let out = clear _ _ _ h in
-    let view = clear _ _ _ out.1 in
-    let member = clear _ _ _ view.1 in
-    let change = clear _ _ _ member.1 in
-    let turn = clear _ _ _ change.1 in
-    let late = clear _ _ _ turn.1 in
-    let known = clear _ _ _ late.1 in
-    let size = clear _ _ _ known.1 in
-    record { now = eqb-true _ _ (not-false _ view.0); known = member.0; may = change.0; timely = late.0; fits = size.0 }
-
--- Where no reason of a list holds, none of its end does.
-none_after : (xs ys : List (Bool × Refusal)) → first_of (xs ++ ys) ≡ None → first_of ys ≡ None
-none_after [] ys h = h
-none_after (x ∷ xs) ys h = none_after xs ys (clear x.0 x.1 (first_of (xs ++ ys)) h).1
+    let none = none_holds (fit_reasons s m room ++ seal_reasons m genuine spent) h in
+    record { now = eqb-true _ _ (not-false _ (none 1)); known = none 2; may = none 3; timely = none 5; fits = none 7 }
 
 -- Every tag of a message that was heard is good.
 pub was_genuine : (s : State) (m : Msg) (room : ℕ) (genuine spent : Bool) → hear_refusal s m room genuine spent ≡ None → genuine ≡ true
-was_genuine s m room genuine spent h =
-    not-false genuine (clear (not genuine) Tag _ (none_after (fit_reasons s m room) (seal_reasons m genuine spent) h)).0
+was_genuine s m room genuine spent h = not-false genuine (none_holds (fit_reasons s m room ++ seal_reasons m genuine spent) h 9)
 
 -- A board was asked out.
 pub record AskedOut (s : State) (c : ℕ) : Type 0 where
@@ -53,10 +35,10 @@ pub record AskedOut (s : State) (c : ℕ) : Type 0 where
 
 pub asked_out_when : (s : State) (c room : ℕ) (spent : Bool) → out_refusal s c room spent ≡ None → AskedOut s c
 asked_out_when s c room spent h =
-    let board = clear _ _ _ h in
-    let out = clear _ _ _ board.1 in
-    let member = clear _ _ _ out.1 in
-    let change = clear _ _ _ member.1 in
+    let board = goes_on _ _ _ h in
+    let out = goes_on _ _ _ board.1 in
+    let member = goes_on _ _ _ out.1 in
+    let change = goes_on _ _ _ member.1 in
     record {
       board = leb-false 8 c board.0;
       within = not-false _ member.0;
@@ -70,9 +52,9 @@ pub record AskedInWhen (s : State) (c : ℕ) : Type 0 where
 
 pub asked_in_when : (s : State) (c : ℕ) (y : Option ℕ) (room : ℕ) (spent : Bool) → in_refusal s c y room spent ≡ None → AskedInWhen s c
 asked_in_when s c y room spent h =
-    let board = clear _ _ _ h in
-    let out = clear _ _ _ board.1 in
-    let member = clear _ _ _ out.1 in
+    let board = goes_on _ _ _ h in
+    let out = goes_on _ _ _ board.1 in
+    let member = goes_on _ _ _ out.1 in
     record { board = leb-false 8 c board.0; within = not-false _ member.0 }
 
 -- A set that does not stray from a view lies in it.

@@ -1,26 +1,26 @@
 -- Good tags vouch: an accepted hear has only good tags, so each of its boards outside the faulty ones signed what its tag stands for.
 -- A call makes no tag good but that of the words which its step signed, and leaves a row its board's.
-use Rattle.std.proofs.Common.{◌≡◌, ℕ, Bool, true, false, cond, not, ◌&&◌, ◌||◌, ◌⊎◌, ◌<◌, List, [], ◌∷◌, length, Some, None, Ok, Err, Option, Result, set, sym, refl, ap, ◌∙◌, subst, inl, inr, ⊎_elim, length-set, get_or-set_other, get_or-set_same}
+use Rattle.std.proofs.Common.{◌≡◌, ℕ, true, false, not, ◌||◌, ◌⊎◌, ◌<◌, List, [], ◌∷◌, length, Ok, Err, Option, Result, set, sym, refl, ap, ◌∙◌, subst, inl, inr, ⊎_elim, length-set, get_or-set_other, get_or-set_same}
 use Rattle.std.proofs.lemmas.Bool.{and_parts, or_cases, not-true, both_ways, cases_eq}
-use Rattle.boards.specs.Boards.{member, every}
+use Rattle.boards.specs.Boards.{member}
 use Rattle.boards.proofs.Chosen.{every_at}
 use Rattle.boards.proofs.Members.{member_below}
 use Rattle.codes.specs.declared.Refusal.{Refusal}
 use Rattle.schemes.specs.declared.Scheme.{Ghosts}
-use Rattle.schemes.specs.Meaning.{Good, Signed as SignedGood}
+use Rattle.schemes.specs.Meaning.{Good}
 use Rattle.checks.specs.Checks.{boards_in, act_in, good_in, part_genuine, genuine}
 use Rattle.checks.specs.declared.Part.{Part}
 use Rattle.checks.specs.declared.Part.TheVariants.{Signers, Proof}
 use Rattle.wire.specs.Messages.{Msg, tag_bytes}
 use Rattle.wire.specs.Format.{Formed}
-use Rattle.wire.specs.Acts.{Act, Allowed, words}
+use Rattle.wire.specs.Acts.{Allowed, words}
 use Rattle.wire.proofs.Signs.{signed_allowed, proved_allowed}
 use Rattle.wire.proofs.Answered.{words_tell}
 use Rattle.row.specs.declared.state.State.{State}
 use Rattle.row.specs.declared.state.Sent.{Sent}
-use Rattle.row.specs.declared.state.Leader.{Leader}
-use Rattle.row.specs.States.{with_leader}
-use Rattle.row.specs.Effects.{Effect, Outcome, lone, heard}
+use Rattle.row.specs.Effects.{Effect, Outcome, lone}
+use Rattle.row_laws.specs.Laws.{Goes}
+use Rattle.row_laws.proofs.Row.{latest_rises}
 use Rattle.row.specs.Calls.{Posted, Done, Called, Hears}
 use Rattle.row.specs.Refusals.{of_group}
 use Rattle.views_agree.specs.Agreement.{Call, Step, row_of, Started, Promised, Leads, Signs, VouchedFor}
@@ -94,40 +94,14 @@ module _ {S : Type 0} (g : Ghosts S) where
   honest_call faulty h (Call.ask_in c y) e s s2 tags p = tt
   honest_call faulty h (Call.hear m) e s s2 tags p = λ part b o i good. tags b (act_in part m b) _ o (act_allowed part m b p.0 i) (act_of_group part m b p.1 i) good
 
--- A row stays its board's: whatever is heard, and in every call.
-filled_board : (t : Bool) (s : State) (l l2 : Leader) (x : Effect) → (cond {A = Outcome} t (with_leader s l2, x) (with_leader s l, Effect.silent)).0.board ≡ s.board
-filled_board true s l l2 x = refl
-filled_board false s l l2 x = refl
+-- A call takes its row on, as any call at one row does; so the row stays its board's.
+goes : {S : Type 0} (g : Ghosts S) (c : Call) (e : Step) (s s2 : S) → Promised g c e s s2 → Goes g e.before e.after
+goes g (Call.ask_out c) e s s2 p = Goes.asks_out s s2 c e.offered e.written e.answer p
+goes g (Call.ask_in c y) e s s2 p = Goes.asks_in s s2 c y e.offered e.written e.answer p
+goes g (Call.hear m) e s s2 p = Goes.hears s s2 m e.offered e.written e.answer p.2
 
-heard_board : (s : State) (m : Msg) → (heard s m).0.board ≡ s.board
-heard_board s (Msg.notify v c b t) = filled_board _ s _ _ _
-heard_board s (Msg.suggest v c a t) = refl
-heard_board s (Msg.ack v k c b t) = filled_board _ s _ _ _
-heard_board s (Msg.proposal v k c a t) = refl
-heard_board s (Msg.ready v k c b t) = filled_board _ s _ _ _
-heard_board s (Msg.change v k c a t) = refl
-heard_board s (Msg.deputy v k b t) = filled_board _ s _ _ _
-heard_board s (Msg.query v k a t) = refl
-heard_board s (Msg.last v k b e p ak) = filled_board _ s _ _ _
-heard_board s (Msg.suggest_last v k a es p ak) = refl
-heard_board s (Msg.init v b n k p t) = refl
-heard_board s (Msg.echo v b n k p d t) = refl
-heard_board s (Msg.commit v b n k p a t) = refl
-
-outcome_board : (c : Call) (s : State) → (outcome c s).0.board ≡ s.board
-outcome_board (Call.ask_out c) s = refl
-outcome_board (Call.ask_in c y) s = refl
-outcome_board (Call.hear m) s = heard_board s m
-
-called_board : {S : Type 0} (g : Ghosts S) (r : Result Sent Refusal) (why : Option Refusal) (o : Outcome) (st : State) (s : S) (out : List ℕ) (st2 : State) (s2 : S) (out2 : List ℕ)
-    → Called g why o st s out r st2 s2 out2 → o.0.board ≡ st.board → st2.board ≡ st.board
-called_board g (Ok a) why o st s out st2 s2 out2 p same = ap (λ (z : State). z.board) p.1 ∙ same
-called_board g (Err x) why o st s out st2 s2 out2 p same = ap (λ (z : State). z.board) p.1
-
-pub stays_seated : {S : Type 0} (g : Ghosts S) (e : Step) (s s2 : S) → Promised g e.call e s s2 → e.after.board ≡ e.before.board
-stays_seated g e s s2 p =
-    let q = called_as g e.call e s s2 p in
-    called_board g e.answer q.why (outcome e.call e.before) e.before s e.offered e.after s2 e.written q.called (outcome_board e.call e.before)
+stays_seated : {S : Type 0} (g : Ghosts S) (e : Step) (s s2 : S) → Promised g e.call e s s2 → e.after.board ≡ e.before.board
+stays_seated g e s s2 p = (latest_rises g e.before e.after (goes g e.call e s s2 p)).board
 
 -- In a history from a start.
 started_seated : {S : Type 0} (g : Ghosts S) (faulty first : ℕ) (start rows : List State) (h : List Step) → Started first start → Leads g faulty start rows h
