@@ -30,7 +30,7 @@ use Rattle.views_agree.proofs.StepDeeds.{outcome}
 use Rattle.views_agree.proofs.Signing.{called_as}
 
 -- Each board of a genuine part has a good tag there.
-part_good : (part : Part) (good : Good) (m : Msg) (b : ℕ) → part_genuine part good m ≡ true → member (boards_in part m) b ≡ true → good_in part good m b ≡ true
+pub part_good : (part : Part) (good : Good) (m : Msg) (b : ℕ) → part_genuine part good m ≡ true → member (boards_in part m) b ≡ true → good_in part good m b ≡ true
 part_good part good m b all i =
     ⊎_elim (λ out. absurd (both_ways (member (boards_in part m) b) (not-true (member (boards_in part m) b) out) i)) (λ is. is)
     (or_cases (not (member (boards_in part m) b)) (good_in part good m b) (every_at (λ k. not (member (boards_in part m) k) || good_in part good m k) 8 b all (member_below (boards_in part m) b i)))

@@ -31,7 +31,7 @@ use Rattle.views_agree.specs.Agreement.{Call, Step, row_of, Taken, Leads, Signs,
 use Rattle.views_agree.specs.Grounds.{trusting, SomeChange}
 use Rattle.views_agree.proofs.Ranges.{notify_allowed, ack_allowed, ready_allowed}
 
-can_sign : (b : ℕ) (a : Act) → b < 8 → Allowed a → signable b (words a) ≡ true
+pub can_sign : (b : ℕ) (a : Act) → b < 8 → Allowed a → signable b (words a) ≡ true
 can_sign b a h ok = let l = words_long a ok in and_from _ _ (lt-ltb b 8 h) (and_from _ _ (lt-ltb 0 (length (words a)) (omega (arith, l.0))) (le-leb (length (words a)) 64 (omega (arith, l.1))))
 
 -- Board 0 signs an allowed act.

@@ -26,10 +26,10 @@ unfolding spell
 one_item k = ap number_of (append-nil (bits_of 4 k)) ∙ number_bits 4 k
 
 -- The kind that bits begin with.
-abbrev kind_in : List Bool → ℕ
+abbrev pub kind_in : List Bool → ℕ
 kind_in bs = number_of (take 4 bs)
 
-kind_first : (k : ℕ) (is : List Item) → kind_in (spell (Item.num 4 k ∷ is)) ≡ k % 2 ^ 4
+pub kind_first : (k : ℕ) (is : List Item) → kind_in (spell (Item.num 4 k ∷ is)) ≡ k % 2 ^ 4
 kind_first k is = ap number_of (front 4 (Item.num 4 k ∷ []) is refl) ∙ one_item k
 
 kind_spelt : (m : Msg) → kind_in (spell (values m)) ≡ kind m
@@ -74,7 +74,7 @@ told_words (Act.last v k e) b p ak t h =
 told_words (Act.init v s n k q) b p ak t h = absurd (omega arith)
 told_words (Act.echo v s n k q) b p ak t h = absurd (omega arith)
 
-same_packed : (is js : List Item) → spell is ≡ spell js → packed is ≡ packed js
+pub same_packed : (is js : List Item) → spell is ≡ spell js → packed is ≡ packed js
 unfolding packed
 same_packed is js e = ap (λ bs. bytes_of (length bs / 8) bs) e
 
